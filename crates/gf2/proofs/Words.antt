@@ -1,0 +1,121 @@
+-- Polynomials in machine words: shifts that lose nothing, and one digit more of a factor, of a dividend or of an exponent.
+use mathlib.Core.Path.{_≡_, refl, sym, ap, ap₂, _∙_, subst}
+use Prim.Native.Nat.{ℕ, zero, suc, _+_, _-_, _*_, _/_, _%_, _^_, _≤_, _<_}
+use native.Mathlib.Nat.{zero-mul, one-mul, mod-eq-of-lt, mod-lt, zero-lt-suc, div-eq-of-lt-le, lt-of-lt-of-le, pow-suc, zero-add, suc-add, div-one, div-eq-of-lt}
+use native.Mathlib.Numerals.{add-one}
+use native.Mathlib.Omega.{arith}
+use lib.Pow.{pow-mono, pow-pos, shr-shr, shl-lt, shr-le}
+use lib.Bits.{bitAnd, bitXor, and-mask, xor-zero-r}
+use lib.Count.{leadingZeros, leading-top, leading-length}
+use Rattle.gf2.specs.Algebra.{product, power-of-x, times-x, Degree, Leaves}
+use Rattle.gf2.proofs.Sums.{by-digits}
+use Rattle.gf2.proofs.Ring.{mul-sum-l, mul-x-l, mul-x-r, mul-one-l, mul-one-r}
+use Rattle.gf2.proofs.Division.{degree-above, degree-below, mul-below, mul-digit, leaves-sum, leaves-self, leaves-x-short, leaves-x-long, leaves-below}
+
+pub degree-word : (a : ℕ) → (a ≡ 0 → ⊥) → a < 2 ^ 32 → Degree a (31 - leadingZeros 32 a)
+degree-word a h w =
+    let top = leading-top 32 a (omega arith) w in
+    let is : 31 - leadingZeros 32 a ≡ top .0 = omega (arith, top .1) in
+    ap (λ (n : ℕ). a / 2 ^ n) is
+    ∙ div-eq-of-lt-le (2 ^ top .0) (subst (λ (z : ℕ). z ≤ a) (sym (one-mul (2 ^ top .0))) (top .2))
+    (subst (λ (z : ℕ). a < z) (pow-suc 2 (top .0) ∙ omega arith) (top .3))
+
+-- a polynomial of a word has a degree of at most 31
+pub degree-at-most : (p n : ℕ) → Degree p n → p < 2 ^ 32 → n ≤ 31
+degree-at-most p n h w =
+    let low = degree-above p n h in
+    let high : 31 < n → ⊥ = λ k. let up = pow-mono {i = 32} {j = n} k in omega arith in
+    omega (arith, high)
+
+pub degree-two : (p n : ℕ) → Degree p n → 1 ≤ n → 2 ≤ p
+degree-two p n h k = let low = degree-above p n h in let up = pow-mono {i = 1} {j = n} k in omega arith
+
+-- a shift that loses nothing
+pub shift-word : (w r n : ℕ) → r < 2 ^ n → n + 1 ≤ w → r * 2 % 2 ^ w ≡ r * 2
+shift-word w r n h k = mod-eq-of-lt (lt-of-lt-of-le (shl-lt n 1 h) (pow-mono k))
+
+-- ---- powers of x
+
+pub power-suc : (k : ℕ) → power-of-x (suc k) ≡ times-x (power-of-x k)
+unfolding power-of-x
+power-suc k = pow-suc 2 k
+
+pub power-zero : power-of-x 0 ≡ 1
+unfolding power-of-x
+power-zero = refl
+
+pub power-sum : (j k : ℕ) → product (power-of-x j) (power-of-x k) ≡ power-of-x (j + k)
+power-sum zero k = ap (λ (z : ℕ). product z (power-of-x k)) power-zero ∙ mul-one-l (power-of-x k) ∙ ap power-of-x (sym (zero-add k))
+power-sum (suc j) k =
+    ap (λ (z : ℕ). product z (power-of-x k)) (power-suc j) ∙ mul-x-l (power-of-x j) (power-of-x k)
+    ∙ ap times-x (power-sum j k) ∙ sym (power-suc (j + k)) ∙ ap power-of-x (sym (suc-add j k))
+
+-- ---- loops from the highest digit down: the digits from i on, then one more
+
+-- a number has no digit past its length
+pub past-length : (w a : ℕ) → a < 2 ^ w → a / 2 ^ (w - leadingZeros w a) ≡ 0
+past-length w a h =
+    let top = leading-length w a h in
+    let is : w - leadingZeros w a ≡ top .0 = omega (arith, top .1) in
+    ap (λ (n : ℕ). a / 2 ^ n) is ∙ div-eq-of-lt (top .2)
+
+pub from-lowest : (a i : ℕ) → i ≤ 0 → a / 2 ^ i ≡ a
+from-lowest a i h = let none : i ≡ 0 = omega arith in ap (λ (n : ℕ). a / 2 ^ n) none ∙ div-one a
+
+pub digit-below : (a : ℕ) → bitAnd a 1 < 2
+digit-below a = subst (λ (z : ℕ). z < 2) (sym (and-mask a 1)) (mod-lt a (zero-lt-suc 1))
+
+digit-zero : (a : ℕ) → (bitAnd a 1 ≡ 1 → ⊥) → bitAnd a 1 ≡ 0
+digit-zero a h = let low = digit-below a in omega arith
+
+module _ (a i : ℕ) (h : 0 < i) where
+  half : a / 2 ^ (i - 1) / 2 ≡ a / 2 ^ i
+  half = let whole : i - 1 + 1 ≡ i = omega arith in shr-shr a (i - 1) 1 ∙ ap (λ (n : ℕ). a / 2 ^ n) whole
+
+  pub next-digit : a / 2 ^ (i - 1) ≡ bitXor (a / 2 ^ i * 2) (bitAnd (a / 2 ^ (i - 1)) 1)
+  next-digit =
+      sym (by-digits (a / 2 ^ (i - 1)))
+      ∙ ap₂ (λ (x y : ℕ). bitXor (x * 2) y) half (sym (and-mask (a / 2 ^ (i - 1)) 1))
+
+  pub product-set : (b : ℕ) → bitAnd (a / 2 ^ (i - 1)) 1 ≡ 1 → product (a / 2 ^ (i - 1)) b ≡ bitXor (product (a / 2 ^ i) b * 2) b
+  product-set b e =
+      ap (λ (z : ℕ). product z b) (next-digit ∙ ap (bitXor (a / 2 ^ i * 2)) e) ∙ mul-sum-l b (a / 2 ^ i * 2) 1
+      ∙ ap₂ bitXor (mul-x-l (a / 2 ^ i) b) (mul-one-l b)
+
+  pub product-clear : (b : ℕ) → (bitAnd (a / 2 ^ (i - 1)) 1 ≡ 1 → ⊥) → product (a / 2 ^ (i - 1)) b ≡ product (a / 2 ^ i) b * 2
+  product-clear b n =
+      ap (λ (z : ℕ). product z b)
+      (next-digit ∙ ap (bitXor (a / 2 ^ i * 2)) (digit-zero (a / 2 ^ (i - 1)) n) ∙ xor-zero-r (a / 2 ^ i * 2))
+      ∙ mul-x-l (a / 2 ^ i) b
+
+  pub power-clear : (bitAnd (a / 2 ^ (i - 1)) 1 ≡ 1 → ⊥) → power-of-x (a / 2 ^ (i - 1)) ≡ product (power-of-x (a / 2 ^ i)) (power-of-x (a / 2 ^ i))
+  power-clear n =
+      let low = sym (and-mask (a / 2 ^ (i - 1)) 1) ∙ digit-zero (a / 2 ^ (i - 1)) n in
+      let twice : a / 2 ^ (i - 1) ≡ a / 2 ^ i + a / 2 ^ i = omega (arith, half, low) in
+      ap power-of-x twice ∙ sym (power-sum (a / 2 ^ i) (a / 2 ^ i))
+
+  pub power-set : bitAnd (a / 2 ^ (i - 1)) 1 ≡ 1 → power-of-x (a / 2 ^ (i - 1)) ≡ times-x (product (power-of-x (a / 2 ^ i)) (power-of-x (a / 2 ^ i)))
+  power-set e =
+      let low = sym (and-mask (a / 2 ^ (i - 1)) 1) ∙ e in
+      let twice : a / 2 ^ (i - 1) ≡ suc (a / 2 ^ i + a / 2 ^ i) = omega (arith, half, low) in
+      ap power-of-x twice ∙ power-suc (a / 2 ^ i + a / 2 ^ i) ∙ ap times-x (sym (power-sum (a / 2 ^ i) (a / 2 ^ i)))
+
+-- ---- x times a remainder, in a word of 32 bits
+
+module _ (p n r : ℕ) (hp : Degree p n) (hn : n ≤ 31) (a : ℕ) (l : Leaves a p r) where
+  whole : r * 2 % 2 ^ 32 ≡ r * 2
+  whole = shift-word 32 r n (leaves-below a p r n hp l) (omega arith)
+
+  pub word-short : r * 2 % 2 ^ 32 / 2 ^ n ≡ 0 → Leaves (a * 2) p (r * 2 % 2 ^ 32)
+  word-short e = rw whole (leaves-x-short a p r n hp l (rw whole at e))
+
+  pub word-long : (r * 2 % 2 ^ 32 / 2 ^ n ≡ 0 → ⊥) → Leaves (a * 2) p (bitXor (r * 2 % 2 ^ 32) p)
+  word-long h = rw whole (leaves-x-long a p r n hp l (λ e. h (rw whole e)))
+
+-- ---- a product of two words of 32 bits, in one of 64
+
+-- while a digit is left, the product so far has room for one more
+pub product-shift : (a i b r : ℕ) → a < 2 ^ 32 → b < 2 ^ 32 → 0 < i → r ≡ product (a / 2 ^ i) b → r * 2 % 2 ^ 64 ≡ product (a / 2 ^ i) b * 2
+product-shift a i b r ha hb hi e =
+    let few : a / 2 ^ i < 2 ^ 31 = omega (arith, half a i hi, shr-le a (i - 1)) in
+    ap (λ (z : ℕ). z * 2 % 2 ^ 64) e ∙ shift-word 64 (product (a / 2 ^ i) b) 63 (mul-below 31 32 (a / 2 ^ i) b few hb) (omega arith)

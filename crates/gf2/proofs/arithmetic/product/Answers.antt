@@ -1,0 +1,34 @@
+use mathlib.Core.Path.{_≡_, sym, ap, _∙_}
+use Prim.Native.Nat.{ℕ, _*_, _/_, _%_, _^_, _<_}
+use native.Mathlib.Nat.{div-eq-of-lt}
+use native.Mathlib.Omega.{arith}
+use lib.Bits.{bitXor}
+use Rattle.gf2.specs.Algebra.{product}
+use Rattle.gf2.proofs.Ring.{mul-one-l, mul-comm, mul-assoc, mul-sum-l, mul-zero-l}
+use Rattle.gf2.proofs.Derivative.{derivative-additive, derivative-product}
+use Rattle.gf2.proofs.Division.{degree-product}
+use Rattle.gf2.proofs.Words.{product-set, product-clear, product-shift, from-lowest}
+use Rattle.gf2.proofs.arithmetic.product.Needs as need
+
+pub loop-i-holds : need.loop-i-holds
+loop-i-holds c = sym (ap (λ (z : ℕ). product z (c .from-b .result)) (div-eq-of-lt {n = c .args .a} {m = 2 ^ 32} (omega arith)) ∙ mul-zero-l (c .from-b .result))
+
+pub loop-i-again : need.loop-i-again
+loop-i-again c =
+    let b = c .from-b .result in
+    product-shift (c .args .a) (c .loop-i .i) b (c .loop-i .r) (omega arith) (omega arith) (c .loop-i-test .taken) (c .loop-i .inv)
+    ∙ sym (product-clear (c .args .a) (c .loop-i .i) (c .loop-i-test .taken) b (c .if-a-i-eq1 .left))
+
+pub loop-i-again-then-a-i-eq1 : need.loop-i-again-then-a-i-eq1
+loop-i-again-then-a-i-eq1 c =
+    let b = c .from-b .result in
+    ap (λ (z : ℕ). bitXor z b) (product-shift (c .args .a) (c .loop-i .i) b (c .loop-i .r) (omega arith) (omega arith) (c .loop-i-test .taken) (c .loop-i .inv))
+    ∙ sym (product-set (c .args .a) (c .loop-i .i) (c .loop-i-test .taken) b (c .if-a-i-eq1 .taken))
+
+pub returns : need.returns
+returns c =
+    record {
+      value = c .loop-i .inv ∙ ap (λ (z : ℕ). product z (c .from-b .result)) (from-lowest (c .args .a) (c .loop-i .i) (c .loop-i-test .left)) ∙ ap (product (c .args .a)) (c .from-b .ensures);
+      ring = record { one = mul-one-l; commutes = mul-comm; associates = mul-assoc; distributes = λ a b c. mul-sum-l c a b; degrees = degree-product };
+      derivation = record { sum = derivative-additive; leibniz = derivative-product };
+    }

@@ -1,0 +1,32 @@
+// Degree and product, and the laws that they keep.
+ghost use mathlib.Core.Path.{_≡_};
+ghost use Rattle.std.specs.declared.option.Option.the-variants.{None, Some};
+ghost use Rattle.gf2.specs.Algebra.{product as times, Degree};
+ghost use Rattle.gf2.specs.Laws.{Ring, Derivation};
+
+// The highest power of x in a; 0 has none.
+pub fn degree(a: u32) -> Option<u32>
+    ensures { λ r. ⌜ elim r [ None ↦ a ≡ 0 | Some n ↦ Degree a n ] ⌝ }
+{
+    if a == 0 {
+        return None;
+    }
+    Some(31 - a.leading_zeros())
+}
+
+// The whole product, from the highest digit of a down.
+pub fn product(a: u32, b: u32) -> u64
+    ensures value { λ r. ⌜ r ≡ times a b ⌝ }
+    ensures ring { λ _. ⌜ Ring ⌝ }
+    ensures derivation { λ _. ⌜ Derivation ⌝ }
+{
+    let b = u64::from(b);
+    let mut r = 0u64;
+    for i in (0..32u32).rev() {
+        r <<= 1;
+        if a >> i & 1 == 1 {
+            r ^= b;
+        }
+    }
+    r
+}
