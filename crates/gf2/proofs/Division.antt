@@ -18,6 +18,9 @@ use Rattle.gf2.proofs.Ring.{mul-zero-l, mul-one-l, mul-one-r, mul-sum-l, mul-s
 pub below : (a n : ℕ) → a / 2 ^ n ≡ 0 → a < 2 ^ n
 below a n e = subst (λ (z : ℕ). a < z) (one-mul (2 ^ n)) (div-lt-iff-lt-mul {y = 1} (pow-pos n) .0 (omega arith))
 
+pub reaches : (a n : ℕ) → (a / 2 ^ n ≡ 0 → ⊥) → 2 ^ n ≤ a
+reaches a n h = ⊎-elim (λ less. absurd (h (div-eq-of-lt less))) (λ from. from) (order a (2 ^ n))
+
 pub degree-above : (p n : ℕ) → Degree p n → 2 ^ n ≤ p
 degree-above p n e = subst (λ (z : ℕ). z ≤ p) (one-mul (2 ^ n)) (le-div-iff-mul-le {x = 1} (pow-pos n) .0 (omega arith))
 

@@ -1,0 +1,3 @@
+pub mod Determinants
+pub mod Recurrence
+pub mod Degrees

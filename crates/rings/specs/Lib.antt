@@ -1,0 +1,3 @@
+pub mod Determinant
+pub mod Vectors
+pub mod Questions
