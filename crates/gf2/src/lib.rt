@@ -2,6 +2,8 @@
 // 32 bits hold a polynomial of degree up to 31, 64 bits a product of two.
 pub mod arithmetic;
 pub mod modulus;
+#[cfg(test)]
+mod tests;
 
 pub use arithmetic::degree;
 pub use arithmetic::product;

@@ -36,10 +36,11 @@ degrees v zero = (refl, omega arith)
 degrees v (suc k) =
     let h = degrees v k in
     let top = degree-product 1 k (bitXor 2 (rule v k)) (recurrence-from (suc k) v) (linear (rule v k) (rule-below v k)) (h .0) in
-    let low = lt-of-lt-of-le (h .1) (pow-mono {i = k} {j = suc k} (omega arith)) in
-    (xor-shr (product (bitXor 2 (rule v k)) (recurrence-from (suc k) v)) (recurrence-from k v) (suc k)
-      ∙ ap₂ bitXor (ap (λ (n : ℕ). product (bitXor 2 (rule v k)) (recurrence-from (suc k) v) / 2 ^ n) (sym (one-add k)) ∙ top) (div-eq-of-lt low),
-     degree-below (recurrence-from (suc k) v) k (h .0))
+    let low = lt-of-lt-of-le (h .1) (pow-mono {i = k} {j = suc k} (omega arith)) in (
+      xor-shr (product (bitXor 2 (rule v k)) (recurrence-from (suc k) v)) (recurrence-from k v) (suc k)
+          ∙ ap₂ bitXor (ap (λ (n : ℕ). product (bitXor 2 (rule v k)) (recurrence-from (suc k) v) / 2 ^ n) (sym (one-add k)) ∙ top) (div-eq-of-lt low),
+      degree-below (recurrence-from (suc k) v) k (h .0),
+    )
 
 pub recurrence-degree : (n v : ℕ) → Degree (recurrence n v) n
 unfolding recurrence
@@ -70,8 +71,8 @@ module _ (v k before current : ℕ) (few : k < 31) (h : Pair v k before current)
   next-is own e =
       ap₂ (λ (x y : ℕ). bitXor (bitXor x y) before) shifted (sym e)
       ∙ ap (λ (z : ℕ). bitXor z before) (sym
-          (mul-sum-l current 2 (rule v k)
-          ∙ ap₂ bitXor (mul-x-l 1 current ∙ ap (λ (z : ℕ). z * 2) (mul-one-l current)) (mul-digit (rule v k) current (rule-below v k))))
+      (mul-sum-l current 2 (rule v k)
+      ∙ ap₂ bitXor (mul-x-l 1 current ∙ ap (λ (z : ℕ). z * 2) (mul-one-l current)) (mul-digit (rule v k) current (rule-below v k))))
       ∙ ap₂ (λ (x y : ℕ). bitXor (product (bitXor 2 (rule v k)) x) y) (h .current-is) (h .before-is)
       ∙ sym (recurrence-step v k)
 

@@ -37,12 +37,12 @@ determinant-zero-column zero m h =
 determinant-zero-column (suc n) m h =
     sum-zero (suc (suc n)) (λ j. product (m (suc n) j) (determinant (suc n) (minor j m)))
     (λ j l. ⊎-elim
-      (λ before.
-        let last : skip j n ≡ suc n = omega arith in
-        ap (product (m (suc n) j)) (determinant-zero-column n (minor j m) (λ i k. ap (m i) last ∙ h i (omega arith)))
-        ∙ mul-zero-r (m (suc n) j))
-      (λ from.
-        let last : j ≡ suc n = omega arith in
-        ap (λ (z : ℕ). product z (determinant (suc n) (minor j m))) (ap (m (suc n)) last ∙ h (suc n) (omega arith))
-        ∙ mul-zero-l (determinant (suc n) (minor j m)))
-      (order j (suc n)))
+    (λ before.
+    let last : skip j n ≡ suc n = omega arith in
+    ap (product (m (suc n) j)) (determinant-zero-column n (minor j m) (λ i k. ap (m i) last ∙ h i (omega arith)))
+    ∙ mul-zero-r (m (suc n) j))
+    (λ from.
+    let last : j ≡ suc n = omega arith in
+    ap (λ (z : ℕ). product z (determinant (suc n) (minor j m))) (ap (m (suc n)) last ∙ h (suc n) (omega arith))
+    ∙ mul-zero-l (determinant (suc n) (minor j m)))
+    (order j (suc n)))

@@ -59,9 +59,9 @@ module _ (v k : ℕ) where
   unfolding determinant sum
   beside-last-is =
       ap₂ bitXor
-        (sum-zero k (λ j. product (beside-last v k k j) (determinant k (minor j (beside-last v k))))
-          (λ j h. ap (product (beside-last v k k j)) (off-inner v k j h) ∙ mul-zero-r (beside-last v k k j)))
-        (ap₂ product last off-both ∙ mul-one-l (determinant k (characteristic v)))
+      (sum-zero k (λ j. product (beside-last v k k j) (determinant k (minor j (beside-last v k))))
+      (λ j h. ap (product (beside-last v k k j)) (off-inner v k j h) ∙ mul-zero-r (beside-last v k k j)))
+      (ap₂ product last off-both ∙ mul-one-l (determinant k (characteristic v)))
     where
       last : beside-last v k k k ≡ 1
       last = let past : skip k k ≡ suc k = omega arith in ap (characteristic v k) past ∙ beside v k (suc k) (omega arith)
@@ -73,12 +73,12 @@ module _ (v k : ℕ) where
   unfolding determinant sum
   determinant-step =
       ap₂ bitXor
-        (ap₂ bitXor
-          (sum-zero k (λ j. product (characteristic v (suc k) j) (determinant (suc k) (minor j (characteristic v))))
-            (λ j h. ap (λ (z : ℕ). product z (determinant (suc k) (minor j (characteristic v)))) (far v (suc k) j (omega arith))
-              ∙ mul-zero-l (determinant (suc k) (minor j (characteristic v)))))
-          (ap₂ product (beside v (suc k) k (omega arith)) beside-last-is ∙ mul-one-l (determinant k (characteristic v))))
-        (ap₂ product (on-diagonal v (suc k)) off-last)
+      (ap₂ bitXor
+      (sum-zero k (λ j. product (characteristic v (suc k) j) (determinant (suc k) (minor j (characteristic v))))
+      (λ j h. ap (λ (z : ℕ). product z (determinant (suc k) (minor j (characteristic v)))) (far v (suc k) j (omega arith))
+      ∙ mul-zero-l (determinant (suc k) (minor j (characteristic v)))))
+      (ap₂ product (beside v (suc k) k (omega arith)) beside-last-is ∙ mul-one-l (determinant k (characteristic v))))
+      (ap₂ product (on-diagonal v (suc k)) off-last)
       ∙ xor-comm (determinant k (characteristic v)) (product (bitXor 2 (rule v (suc k))) (determinant (suc k) (characteristic v)))
 
 -- ---- the recurrence

@@ -28,7 +28,10 @@ impl RuleVector {
         if vector >> cells != 0 {
             return Err(Refusal::VectorTooLarge);
         }
-        Ok(RuleVector { cells, rules: vector })
+        Ok(RuleVector {
+            cells,
+            rules: vector,
+        })
     }
 
     pub fn cells(&self) -> u32

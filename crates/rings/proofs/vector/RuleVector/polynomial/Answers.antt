@@ -18,8 +18,8 @@ loop-k-again c =
     let l = c .loop-k in
     let turned : ℕ → Type 0 = λ own. Pair v (l .k + 1) (l .current) (bitXor (bitXor (l .current * 2 % 2 ^ 32) own) (l .before)) in
     elim (c .if-self-k-eq1 .came) [
-      then-self-k-eq1 w ↦ subst turned (sym (w .own-is)) (pair-150 v (l .k) (l .before) (l .current) (omega arith) (l .inv) (w .if-self-k-eq1 .taken))
-    | else-self-k-eq1 w ↦ subst turned (sym (w .own-is)) (pair-90 v (l .k) (l .before) (l .current) (omega arith) (l .inv) (w .if-self-k-eq1 .left))
+      | then-self-k-eq1 w ↦ subst turned (sym (w .own-is)) (pair-150 v (l .k) (l .before) (l .current) (omega arith) (l .inv) (w .if-self-k-eq1 .taken))
+      | else-self-k-eq1 w ↦ subst turned (sym (w .own-is)) (pair-90 v (l .k) (l .before) (l .current) (omega arith) (l .inv) (w .if-self-k-eq1 .left))
     ]
 
 pub returns : need.returns
@@ -28,7 +28,7 @@ returns c =
     let l = c .loop-k in
     let whole : l .k ≡ v .cells = omega arith in
     let is : l .current ≡ recurrence (v .cells) (v .rules) =
-        subst (λ (n : ℕ). l .current ≡ recurrence n (v .rules)) whole (pair-last (v .rules) (l .k) (l .before) (l .current) (l .inv)) in
+    subst (λ (n : ℕ). l .current ≡ recurrence n (v .rules)) whole (pair-last (v .rules) (l .k) (l .before) (l .current) (l .inv)) in
     record {
       value = is ∙ sym (polynomial-recurrence (v .cells) (v .rules));
       recurrence = is;
