@@ -220,6 +220,12 @@ leaves-some p n a hp =
     (bitXor (twice .0) (digit .0), subst (λ (z : ℕ). Leaves z p (bitXor (twice .0) (digit .0))) (by-digits a) sum))
     a
 
+-- a constant times what leaves r
+pub leaves-digit-times : (d a p r : ℕ) → d < 2 → Leaves a p r → Leaves (d * a) p (d * r)
+leaves-digit-times zero a p r h l = rw (zero-mul a, zero-mul r) (leaves-self p (l .degree) 0 (l .leading) (pow-pos (l .degree)))
+leaves-digit-times (suc zero) a p r h l = rw (one-mul a, one-mul r) l
+leaves-digit-times (suc (suc d)) a p r h l = absurd (omega arith)
+
 -- modulo p, factors may be replaced by what they leave
 pub leaves-product : (a b p r s t : ℕ) → Leaves a p r → Leaves b p s → Leaves (product r s) p t → Leaves (product a b) p t
 leaves-product a b p r s t l k h =

@@ -1,11 +1,13 @@
 -- Polynomials in machine words: shifts that lose nothing, and one digit more of a factor, of a dividend or of an exponent.
 use mathlib.Core.Path.{_≡_, refl, sym, ap, ap₂, _∙_, subst}
 use Prim.Native.Nat.{ℕ, zero, suc, _+_, _-_, _*_, _/_, _%_, _^_, _≤_, _<_}
-use native.Mathlib.Nat.{zero-mul, one-mul, mod-eq-of-lt, mod-lt, zero-lt-suc, div-eq-of-lt-le, lt-of-lt-of-le, pow-suc, zero-add, suc-add, div-one, div-eq-of-lt}
+use native.Mathlib.Nat.{zero-mul, one-mul, add-zero, mod-eq-of-lt, mod-lt, zero-lt-suc, div-eq-of-lt-le, lt-of-lt-of-le, pow-suc, zero-add, suc-add, div-one, div-eq-of-lt, div-lt-iff-lt-mul, eq-zero-or-pos}
 use native.Mathlib.Numerals.{add-one}
 use native.Mathlib.Omega.{arith}
+use mathlib.Core.Logic.{⊎-elim}
 use lib.Pow.{pow-mono, pow-pos, shr-shr, shl-lt, shr-le}
-use lib.Bits.{bitAnd, bitXor, and-mask, xor-zero-r}
+use lib.Bits.{bitAnd, bitXor, and-mask, and-zero-r, xor-zero-r}
+use Rattle.std.proofs.str.Laws.{order}
 use lib.Count.{leadingZeros, leading-top, leading-length}
 use Rattle.gf2.specs.Algebra.{product, power-of-x, times-x, Degree, Leaves}
 use Rattle.gf2.proofs.Sums.{by-digits}
@@ -77,16 +79,10 @@ module _ (a i : ℕ) (h : 0 < i) where
       sym (by-digits (a / 2 ^ (i - 1)))
       ∙ ap₂ (λ (x y : ℕ). bitXor (x * 2) y) half (sym (and-mask (a / 2 ^ (i - 1)) 1))
 
-  pub product-set : (b : ℕ) → bitAnd (a / 2 ^ (i - 1)) 1 ≡ 1 → product (a / 2 ^ (i - 1)) b ≡ bitXor (product (a / 2 ^ i) b * 2) b
-  product-set b e =
-      ap (λ (z : ℕ). product z b) (next-digit ∙ ap (bitXor (a / 2 ^ i * 2)) e) ∙ mul-sum-l b (a / 2 ^ i * 2) 1
-      ∙ ap₂ bitXor (mul-x-l (a / 2 ^ i) b) (mul-one-l b)
-
-  pub product-clear : (b : ℕ) → (bitAnd (a / 2 ^ (i - 1)) 1 ≡ 1 → ⊥) → product (a / 2 ^ (i - 1)) b ≡ product (a / 2 ^ i) b * 2
-  product-clear b n =
-      ap (λ (z : ℕ). product z b)
-      (next-digit ∙ ap (bitXor (a / 2 ^ i * 2)) (digit-zero (a / 2 ^ (i - 1)) n) ∙ xor-zero-r (a / 2 ^ i * 2))
-      ∙ mul-x-l (a / 2 ^ i) b
+  pub product-digit : (b : ℕ) → product (a / 2 ^ (i - 1)) b ≡ bitXor (product (a / 2 ^ i) b * 2) (bitAnd (a / 2 ^ (i - 1)) 1 * b)
+  product-digit b =
+      ap (λ (z : ℕ). product z b) next-digit ∙ mul-sum-l b (a / 2 ^ i * 2) (bitAnd (a / 2 ^ (i - 1)) 1)
+      ∙ ap₂ bitXor (mul-x-l (a / 2 ^ i) b) (mul-digit (bitAnd (a / 2 ^ (i - 1)) 1) b (digit-below (a / 2 ^ (i - 1))))
 
   pub power-clear : (bitAnd (a / 2 ^ (i - 1)) 1 ≡ 1 → ⊥) → power-of-x (a / 2 ^ (i - 1)) ≡ product (power-of-x (a / 2 ^ i)) (power-of-x (a / 2 ^ i))
   power-clear n =
@@ -100,17 +96,36 @@ module _ (a i : ℕ) (h : 0 < i) where
       let twice : a / 2 ^ (i - 1) ≡ suc (a / 2 ^ i + a / 2 ^ i) = omega (arith, half, low) in
       ap power-of-x twice ∙ power-suc (a / 2 ^ i + a / 2 ^ i) ∙ ap times-x (sym (power-sum (a / 2 ^ i) (a / 2 ^ i)))
 
+-- ---- a digit times a number, as a mask
+
+pub masked : (w d b m : ℕ) → d < 2 → b < 2 ^ w → m < 2 ^ w → (m + d) % 2 ^ w ≡ 0 → bitAnd b m ≡ d * b
+masked w zero b m hd hb hm e =
+    let none : m ≡ 0 = sym (mod-eq-of-lt hm) ∙ ap (λ (z : ℕ). z % 2 ^ w) (sym (add-zero m)) ∙ e in
+    ap (bitAnd b) none ∙ and-zero-r b ∙ sym (zero-mul b)
+masked w (suc zero) b m hd hb hm e =
+    let ones : m ≡ 2 ^ w - 1 =
+    ⊎-elim (λ less. absurd (let none = sym (mod-eq-of-lt less) ∙ e in omega arith)) (λ from. omega arith) (order (m + 1) (2 ^ w)) in
+    ap (bitAnd b) ones ∙ and-mask b w ∙ mod-eq-of-lt hb ∙ sym (one-mul b)
+masked w (suc (suc d)) b m hd hb hm e = absurd (omega arith)
+
 -- ---- x times a remainder, in a word of 32 bits
 
-module _ (p n r : ℕ) (hp : Degree p n) (hn : n ≤ 31) (a : ℕ) (l : Leaves a p r) where
-  whole : r * 2 % 2 ^ 32 ≡ r * 2
-  whole = shift-word 32 r n (leaves-below a p r n hp l) (omega arith)
-
-  pub word-short : r * 2 % 2 ^ 32 / 2 ^ n ≡ 0 → Leaves (a * 2) p (r * 2 % 2 ^ 32)
-  word-short e = rw whole (leaves-x-short a p r n hp l (rw whole at e))
-
-  pub word-long : (r * 2 % 2 ^ 32 / 2 ^ n ≡ 0 → ⊥) → Leaves (a * 2) p (bitXor (r * 2 % 2 ^ 32) p)
-  word-long h = rw whole (leaves-x-long a p r n hp l (λ e. h (rw whole e)))
+-- The digit at the degree of p says whether p is taken off.
+pub word-times-x : (p n r s : ℕ) → Degree p n → n ≤ 31 → (a : ℕ) → Leaves a p r
+    → (r * 2 % 2 ^ 32 / 2 ^ n < 2 → s ≡ r * 2 % 2 ^ 32 / 2 ^ n * p) → Leaves (a * 2) p (bitXor (r * 2 % 2 ^ 32) s)
+word-times-x p n r s hp hn a l h =
+    let small = leaves-below a p r n hp l in
+    let whole = shift-word 32 r n small (omega arith) in
+    let top : r * 2 / 2 ^ n < 2 = div-lt-iff-lt-mul (pow-pos n) .1 (omega arith) in
+    let is : s ≡ r * 2 / 2 ^ n * p = rw whole at (h (rw whole top)) in
+    rw (whole, is) (⊎-elim
+    (λ e. subst (λ (d : ℕ). Leaves (a * 2) p (bitXor (r * 2) (d * p))) (sym e)
+    (rw (zero-mul, xor-zero-r) (leaves-x-short a p r n hp l e)))
+    (λ k.
+    let one : r * 2 / 2 ^ n ≡ 1 = omega arith in
+    subst (λ (d : ℕ). Leaves (a * 2) p (bitXor (r * 2) (d * p))) (sym one)
+    (rw one-mul (leaves-x-long a p r n hp l (λ e. omega arith))))
+    (eq-zero-or-pos (r * 2 / 2 ^ n)))
 
 -- ---- a product of two words of 32 bits, in one of 64
 

@@ -1,5 +1,6 @@
 // Degree and product, and the laws that they keep.
 ghost use mathlib.Core.Path.{_≡_};
+ghost use Prim.Native.Nat.{_*_, _<_};
 ghost use Rattle.std.specs.declared.option.Option.the-variants.{None, Some};
 ghost use Rattle.gf2.specs.Algebra.{product as times, Degree};
 ghost use Rattle.gf2.specs.Laws.{Ring, Derivation};
@@ -23,10 +24,15 @@ pub fn product(a: u32, b: u32) -> u64
     let b = u64::from(b);
     let mut r = 0u64;
     for i in (0..32u32).rev() {
-        r <<= 1;
-        if a >> i & 1 == 1 {
-            r ^= b;
-        }
+        let digit = u64::from(a >> i & 1);
+        r = r << 1 ^ b & digit.wrapping_neg();
     }
     r
+}
+
+// A digit times b, without a branch.
+pub(crate) fn scaled(digit: u32, b: u32) -> u32
+    ensures { λ r. ⌜ (digit < 2 → r ≡ digit * b) ⌝ }
+{
+    b & digit.wrapping_neg()
 }

@@ -40,11 +40,14 @@ impl Modulus {
         self.degree
     }
 
-    // What a leaves, from its highest digit down.
+    // What a leaves: itself where it is of lower degree, and else from its highest digit down.
     pub fn remainder(&self, a: u64) -> u32
         ensures value { λ r. ⌜ Leaves a (now (self .entry) .polynomial) r ⌝ }
         ensures division { λ _. ⌜ Division (now (self .entry) .polynomial) ⌝ }
     {
+        if a >> self.degree == 0 {
+            return a as u32;
+        }
         let mut r = 0;
         for i in (0..64 - a.leading_zeros()).rev() {
             r = self.times_x(r) ^ (a >> i & 1) as u32;
@@ -56,7 +59,7 @@ impl Modulus {
     pub fn product(&self, a: u32, b: u32) -> u32
         ensures { λ r. ⌜ Leaves (times a b) (now (self .entry) .polynomial) r ⌝ }
     {
-        self.scaled(a, self.remainder(u64::from(b)))
+        self.multiple(a, self.remainder(u64::from(b)))
     }
 
     // What x^e leaves: a square for each digit of e, and a step more where it is 1.
@@ -65,7 +68,7 @@ impl Modulus {
     {
         let mut r = 1;
         for i in (0..64 - e.leading_zeros()).rev() {
-            r = self.scaled(r, r);
+            r = self.multiple(r, r);
             if e >> i & 1 == 1 {
                 r = self.times_x(r);
             }
@@ -78,23 +81,16 @@ impl Modulus {
         ensures { λ s. ⌜ ((a : ℕ) → Leaves a (now (self .entry) .polynomial) r → Leaves (times-x a) (now (self .entry) .polynomial) s) ⌝ }
     {
         let doubled = r << 1;
-        if doubled >> self.degree == 0 {
-            doubled
-        } else {
-            doubled ^ self.polynomial
-        }
+        doubled ^ arithmetic::scaled(doubled >> self.degree, self.polynomial)
     }
 
     // a times what leaves b, from the highest digit of a down.
-    fn scaled(&self, a: u32, b: u32) -> u32
+    fn multiple(&self, a: u32, b: u32) -> u32
         ensures { λ r. ⌜ ((c : ℕ) → Leaves c (now (self .entry) .polynomial) b → Leaves (times a c) (now (self .entry) .polynomial) r) ⌝ }
     {
         let mut r = 0;
         for i in (0..32 - a.leading_zeros()).rev() {
-            r = self.times_x(r);
-            if a >> i & 1 == 1 {
-                r ^= b;
-            }
+            r = self.times_x(r) ^ arithmetic::scaled(a >> i & 1, b);
         }
         r
     }

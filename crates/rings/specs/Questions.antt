@@ -1,9 +1,11 @@
 -- Refusals: the number of each, and how a call asks its questions.
 --
 --   number-of q      == the number of the question that was answered by no
+--   place-of q       == the cell that the refusal names, if it names one
 --   unless t q rest  == the refusal q where the test t fails, else what the questions after it give
 --   Answers r q P    == r refuses with the refusal that q has, or q has none and r is a value that satisfies P
 --   vector-refusal   == the questions to a number of cells and a vector, in their order
+--   word-refusal     == the question to a word that is to be a state of so many cells
 use mathlib.Core.Path.{_≡_}
 use mathlib.Core.Bool.{Bool, true, false, _&&_}
 use Prim.Native.Nat.{ℕ, _^_}
@@ -44,6 +46,35 @@ number-of VectorNotAbove = 37
 number-of NoRoom = 38
 number-of ListNotFull = 39
 
+abbrev pub place-of : Refusal → Option ℕ
+place-of PolynomialBelowTwo = None
+place-of SearchRunning = None
+place-of NoSuchCell = None
+place-of PinValue = None
+place-of CellPinned = None
+place-of CellNotPinned = None
+place-of NoVectorLeft = None
+place-of TooManyItems = None
+place-of WordTooLarge = None
+place-of SeedZero = None
+place-of NotSeeded = None
+place-of ClockPastLimit = None
+place-of CellCount = None
+place-of VectorTooLarge = None
+place-of TooManyCells = None
+place-of (NoShift cell) = Some cell
+place-of BufferTooShort = None
+place-of TooFewCells = None
+place-of SlotCount = None
+place-of SheetLength = None
+place-of NoSlotFree = None
+place-of PolynomialNotAbove = None
+place-of EntryNotOpen = None
+place-of OtherPolynomial = None
+place-of VectorNotAbove = None
+place-of NoRoom = None
+place-of ListNotFull = None
+
 abbrev pub unless : Bool → Refusal → Option Refusal → Option Refusal
 unless true q rest = rest
 unless false q rest = Some q
@@ -56,3 +87,7 @@ Answers (Err e) q P = q ≡ Some e
 abbrev pub vector-refusal : ℕ → ℕ → Option Refusal
 vector-refusal cells vector =
     unless (leb 1 cells && leb cells 31) CellCount (unless (ltb vector (2 ^ cells)) VectorTooLarge None)
+
+-- A word below 2^cells?
+abbrev pub word-refusal : ℕ → ℕ → Option Refusal
+word-refusal cells word = unless (ltb word (2 ^ cells)) WordTooLarge None

@@ -1,8 +1,9 @@
 // The questions that calls ask, each by what is wrong where its answer is no.
 ghost use mathlib.Core.Path.{_≡_};
-ghost use Rattle.rings.specs.Questions.{number-of};
+ghost use Rattle.rings.specs.Questions.{number-of, place-of};
+use std::fmt;
 
-#[derive(Clone, Copy, PartialEq, Eq, Debug)]
+#[derive(Clone, Copy, PartialEq, Eq)]
 pub enum Refusal {
     // The polynomial is 0 or 1.
     PolynomialBelowTwo,
@@ -94,5 +95,22 @@ impl Refusal {
             Refusal::NoRoom => 38,
             Refusal::ListNotFull => 39,
         }
+    }
+
+    // The cell, counted from 1, that the refusal names, if it names one.
+    pub fn place(&self) -> Option<u32>
+        ensures { λ r. ⌜ r ≡ place-of (now (self .entry)) ⌝ }
+    {
+        match self {
+            Refusal::NoShift(cell) => Some(*cell),
+            _ => None,
+        }
+    }
+}
+
+pub impl fmt::Debug for Refusal as RefusalDebug {
+    fn fmt<W: fmt::Write>(&self, f: &mut fmt::Formatter<W>) -> fmt::Result {
+        let number = self.number();
+        write!(f, "refused {number}")
     }
 }

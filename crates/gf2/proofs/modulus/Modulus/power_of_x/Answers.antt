@@ -14,12 +14,12 @@ loop-i-holds c =
 pub loop-i-again : need.loop-i-again
 loop-i-again c =
     rw (power-clear (c .args .e) (c .loop-i .i) (c .loop-i-test .taken) (c .if-e-i-eq1 .left))
-    (leaves-square _ _ (c .loop-i .r) _ (c .loop-i .inv) (c .scaled-r .ensures))
+    (leaves-square _ _ (c .loop-i .r) _ (c .loop-i .inv) (c .multiple-r .ensures))
 
 pub loop-i-again-then-e-i-eq1 : need.loop-i-again-then-e-i-eq1
 loop-i-again-then-e-i-eq1 c =
     rw (power-set (c .args .e) (c .loop-i .i) (c .loop-i-test .taken) (c .if-e-i-eq1 .taken))
-    (c .times-x-r .ensures _ (leaves-square _ _ (c .loop-i .r) _ (c .loop-i .inv) (c .scaled-r .ensures)))
+    (c .times-x-r .ensures _ (leaves-square _ _ (c .loop-i .r) _ (c .loop-i .inv) (c .multiple-r .ensures)))
 
 pub returns : need.returns
 returns c = rw (from-lowest (c .args .e) (c .loop-i .i) (c .loop-i-test .left)) at (c .loop-i .inv)

@@ -1,6 +1,6 @@
 use Prim.Native.Nat.{ℕ, _/_, _^_}
 use Rattle.gf2.specs.Algebra.{product, power-of-x, Leaves}
-use Rattle.gf2.proofs.modulus.Modulus.scaled.Given as given
+use Rattle.gf2.proofs.modulus.Modulus.multiple.Given as given
 
 -- r is what the digits of a from i on, times c, leave
 abbrev pub Inv-loop-i : given.InvT-loop-i
