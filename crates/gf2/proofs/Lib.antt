@@ -1,6 +1,6 @@
 pub mod Sums
 pub mod Action
 pub mod Ring
-pub mod Derivative
+pub mod Derivation
 pub mod Division
 pub mod Words

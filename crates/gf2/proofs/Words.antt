@@ -1,17 +1,18 @@
 -- Polynomials in machine words: shifts that lose nothing, and one digit more of a factor, of a dividend or of an exponent.
 use mathlib.Core.Path.{_≡_, refl, sym, ap, ap₂, _∙_, subst}
 use Prim.Native.Nat.{ℕ, zero, suc, _+_, _-_, _*_, _/_, _%_, _^_, _≤_, _<_}
-use native.Mathlib.Nat.{zero-mul, one-mul, add-zero, mod-eq-of-lt, mod-lt, zero-lt-suc, div-eq-of-lt-le, lt-of-lt-of-le, pow-suc, zero-add, suc-add, div-one, div-eq-of-lt, div-lt-iff-lt-mul, eq-zero-or-pos}
+use native.Mathlib.Nat.{zero-mul, one-mul, add-zero, mod-eq-of-lt, mod-lt, zero-lt-suc, div-eq-of-lt-le, lt-of-lt-of-le, pow-suc, zero-add, suc-add, div-one, div-eq-of-lt, div-lt-iff-lt-mul, eq-zero-or-pos, div-add-mod'}
 use native.Mathlib.Numerals.{add-one}
 use native.Mathlib.Omega.{arith}
 use mathlib.Core.Logic.{⊎-elim}
 use lib.Pow.{pow-mono, pow-pos, shr-shr, shl-lt, shr-le}
-use lib.Bits.{bitAnd, bitXor, and-mask, and-zero-r, xor-zero-r}
+use lib.Bits.{bitAnd, bitXor, and-mask, and-zero-r, and-block, xor-zero-r, xor-shifted}
 use Rattle.std.proofs.str.Laws.{order}
 use lib.Count.{leadingZeros, leading-top, leading-length}
-use Rattle.gf2.specs.Algebra.{product, power-of-x, times-x, Degree, Leaves}
-use Rattle.gf2.proofs.Sums.{by-digits}
+use Rattle.gf2.specs.Algebra.{product, derivative, power-of-x, times-x, Degree, Leaves}
+use Rattle.gf2.proofs.Sums.{by-digits, xor-double, sums}
 use Rattle.gf2.proofs.Ring.{mul-sum-l, mul-x-l, mul-x-r, mul-one-l, mul-one-r}
+use Rattle.gf2.proofs.Derivation.{derivative-zero, derivative-step}
 use Rattle.gf2.proofs.Division.{degree-above, degree-below, mul-below, mul-digit, leaves-sum, leaves-self, leaves-x-short, leaves-x-long, leaves-below}
 
 pub degree-word : (a : ℕ) → (a ≡ 0 → ⊥) → a < 2 ^ 32 → Degree a (31 - leadingZeros 32 a)
@@ -134,3 +135,38 @@ pub product-shift : (a i b r : ℕ) → a < 2 ^ 32 → b < 2 ^ 32 → 0 < i → 
 product-shift a i b r ha hb hi e =
     let few : a / 2 ^ i < 2 ^ 31 = omega (arith, half a i hi, shr-le a (i - 1)) in
     ap (λ (z : ℕ). z * 2 % 2 ^ 64) e ∙ shift-word 64 (product (a / 2 ^ i) b) 63 (mul-below 31 32 (a / 2 ^ i) b few hb) (omega arith)
+
+-- ---- the derivative of a word, two digits at a time
+
+-- 1 + x² + x⁴ + …, with k terms
+abbrev pub even-powers : ℕ → ℕ
+even-powers zero = 0
+even-powers (suc k) = even-powers k * 4 + 1
+
+cancelled : (x r y : ℕ) → bitXor (bitXor x r) (bitXor x y) ≡ bitXor y r
+cancelled x r y = simp sums
+
+two-digits : (a : ℕ) → derivative a ≡ derivative (a / 4) * 4 + a / 2 % 2
+two-digits a =
+    let d = derivative (a / 4) in
+    let four : d * 2 * 2 ≡ d * 4 = omega arith in
+    derivative-step a
+    ∙ ap (λ (z : ℕ). bitXor (a / 2) (z * 2)) (derivative-step (a / 2) ∙ ap (λ (z : ℕ). bitXor z (derivative z * 2)) (shr-shr a 1 1))
+    ∙ ap₂ bitXor (sym (by-digits (a / 2)) ∙ ap (λ (z : ℕ). bitXor (z * 2) (a / 2 % 2)) (shr-shr a 1 1)) (xor-double (a / 4) (d * 2))
+    ∙ cancelled (a / 4 * 2) (a / 2 % 2) (d * 2 * 2)
+    ∙ ap (λ (z : ℕ). bitXor z (a / 2 % 2)) four
+    ∙ xor-shifted d 2 (a / 2 % 2) (lt-of-lt-of-le (mod-lt (a / 2) (zero-lt-suc 1)) (omega arith))
+
+pub derivative-word : (k a : ℕ) → a < 4 ^ k → derivative a ≡ bitAnd (a / 2) (even-powers k)
+derivative-word zero a h = ap derivative none ∙ derivative-zero ∙ sym (and-zero-r (a / 2))
+  where
+    none : a ≡ 0
+    none = omega arith
+derivative-word (suc k) a h =
+    let rest = derivative-word k (a / 4) (div-lt-iff-lt-mul (zero-lt-suc 3) .1 (subst (λ (z : ℕ). a < z) (pow-suc 4 k) h)) in
+    let block = and-block 2 (a / 2 / 4) (even-powers k) (a / 2 % 4) 1 (mod-lt (a / 2) (zero-lt-suc 3)) (omega arith) in
+    let same : a / 2 / 4 ≡ a / 4 / 2 = omega arith in
+    let low : bitAnd (a / 2 % 4) 1 ≡ a / 2 % 2 = and-mask (a / 2 % 4) 1 ∙ omega arith in
+    two-digits a
+    ∙ ap (λ (z : ℕ). z * 4 + a / 2 % 2) (rest ∙ ap (λ (z : ℕ). bitAnd z (even-powers k)) (sym same))
+    ∙ sym (ap (λ (z : ℕ). bitAnd z (even-powers k * 4 + 1)) (sym (div-add-mod' (a / 2) 4)) ∙ block ∙ ap (λ (z : ℕ). bitAnd (a / 2 / 4) (even-powers k) * 4 + z) low)

@@ -2,7 +2,7 @@
 ghost use mathlib.Core.Path.{_≡_};
 ghost use Prim.Native.Nat.{_*_, _<_};
 ghost use Rattle.std.specs.declared.option.Option.the-variants.{None, Some};
-ghost use Rattle.gf2.specs.Algebra.{product as times, Degree};
+ghost use Rattle.gf2.specs.Algebra.{product as times, derivative as slope, Degree};
 ghost use Rattle.gf2.specs.Laws.{Ring, Derivation};
 
 // The highest power of x in a; 0 has none.
@@ -28,6 +28,16 @@ pub fn product(a: u32, b: u32) -> u64
         r = r << 1 ^ b & digit.wrapping_neg();
     }
     r
+}
+
+// The coefficients at even powers of x.
+const EVEN: u64 = 0x5555_5555_5555_5555;
+
+// The formal derivative: an odd power x^i becomes x^(i−1), and an even one goes.
+pub fn derivative(a: u64) -> u64
+    ensures { λ r. ⌜ r ≡ slope a ⌝ }
+{
+    a >> 1 & EVEN
 }
 
 // A digit times b, without a branch.

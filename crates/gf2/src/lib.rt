@@ -6,5 +6,6 @@ pub mod modulus;
 mod tests;
 
 pub use arithmetic::degree;
+pub use arithmetic::derivative;
 pub use arithmetic::product;
 pub use modulus::Modulus;

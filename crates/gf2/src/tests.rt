@@ -1,5 +1,6 @@
 use crate::Modulus;
 use crate::degree;
+use crate::derivative;
 use crate::product;
 use std::test::*;
 
@@ -19,6 +20,12 @@ fn products_and_degrees() -> Result<(), Fail> {
     check_eq(degree(0), None)?;
     check_eq(degree(1), Some(0))?;
     check_eq(degree(u32::MAX), Some(31))
+}
+
+#[test]
+fn derivatives() -> Result<(), Fail> {
+    check_eq(derivative(0b1111), 0b101).note("x^3 + x^2 + x + 1 has the derivative x^2 + 1")?;
+    check_eq(derivative(u64::MAX), 0x5555_5555_5555_5555)
 }
 
 #[test]

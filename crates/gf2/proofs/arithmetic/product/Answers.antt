@@ -5,7 +5,7 @@ use native.Mathlib.Omega.{arith}
 use lib.Bits.{bitXor}
 use Rattle.gf2.specs.Algebra.{product}
 use Rattle.gf2.proofs.Ring.{mul-one-l, mul-comm, mul-assoc, mul-sum-l, mul-zero-l}
-use Rattle.gf2.proofs.Derivative.{derivative-additive, derivative-product}
+use Rattle.gf2.proofs.Derivation.{derivative-additive, derivative-product}
 use Rattle.gf2.proofs.Division.{degree-product}
 use Rattle.gf2.proofs.Words.{product-digit, digit-below, masked, product-shift, from-lowest}
 use Rattle.gf2.proofs.arithmetic.product.Needs as need

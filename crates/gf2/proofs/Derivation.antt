@@ -23,7 +23,7 @@ unfolding derivative
 derivative-step zero = refl
 derivative-step (suc a) = ap (λ (z : ℕ). bitXor (suc a / 2) (z * 2)) (enough a (suc a / 2) (half-le (le-refl (suc a))))
 
-derivative-zero : derivative 0 ≡ 0
+pub derivative-zero : derivative 0 ≡ 0
 unfolding derivative
 derivative-zero = refl
 
