@@ -35,14 +35,10 @@ impl Command {
     pub fn reply(&self, heap: Global) -> Result<String, AllocError>
         ensures { λ r. ⌜ made r (λ s. string-bytes s ≡ reply-of (now (self .entry))) ⌝ }
     {
-        match self {
-            Command::Multiply { cells, vector } => match polynomial_of(
-                saturated(*cells),
-                saturated(*vector),
-            ) {
-                Ok(polynomial) => polynomial.to_string(heap),
-                Err(refusal) => refused(heap, refusal),
-            },
+        let Command::Multiply { cells, vector } = self;
+        match polynomial_of(saturated(*cells), saturated(*vector)) {
+            Ok(polynomial) => polynomial.to_string(heap),
+            Err(refusal) => refused(heap, refusal),
         }
     }
 }
