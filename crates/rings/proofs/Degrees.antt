@@ -12,15 +12,15 @@ use Rattle.gf2.proofs.Division.{degree-product, degree-below, mul-digit}
 use Rattle.gf2.proofs.Words.{shift-word}
 use Rattle.rings.specs.Vectors.{rule, recurrence-from, recurrence}
 
-rule-below : (v k : ℕ) → rule v k < 2
+pub rule-below : (v k : ℕ) → rule v k < 2
 rule-below v k = mod-lt (v / 2 ^ k) (zero-lt-suc 1)
 
-recurrence-step : (v k : ℕ) →
+pub recurrence-step : (v k : ℕ) →
     recurrence-from (suc (suc k)) v ≡ bitXor (product (bitXor 2 (rule v k)) (recurrence-from (suc k) v)) (recurrence-from k v)
 unfolding recurrence-from
 recurrence-step v k = refl
 
-recurrence-start : (v : ℕ) → (recurrence-from 0 v ≡ 0) × (recurrence-from 1 v ≡ 1)
+pub recurrence-start : (v : ℕ) → (recurrence-from 0 v ≡ 0) × (recurrence-from 1 v ≡ 1)
 unfolding recurrence-from
 recurrence-start v = (refl, refl)
 

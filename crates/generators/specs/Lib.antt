@@ -1,0 +1,3 @@
+pub mod Generators
+pub mod Registers
+pub mod Chosen

@@ -1,0 +1,43 @@
+// Jumps: the state after any number of steps, for about as many steps as there are cells.
+ghost use mathlib.Core.Path.{_≡_};
+ghost use Prim.Native.Nat.{_≤_};
+ghost use lib.ListN.{take, length as size};
+ghost use Rattle.generators.specs.Generators.{iterate, orbit};
+use crate::Generator;
+use crate::WordSummand;
+use crate::chosen_sum;
+use gf2::Modulus;
+
+const MAX_STATES: usize = 32;
+
+// Modulo the polynomial, x^length leaves r; so the state after length steps is the sum of the states 0, 1, … steps on, at
+// the exponents of r. What is added are states, never what is shown of them.
+pub fn jump<G: Generator>(g: &mut G, length: u64)
+    ensures same { λ _. ⌜ meaning (now (g .exit)) ≡ meaning (now (g .entry)) ⌝ }
+    ensures after { λ _. ⌜ state (now (g .exit)) ≡ iterate (meaning (now (g .entry)) .next) length (state (now (g .entry))) ⌝ }
+{
+    let Some(modulus) = Modulus::new(g.polynomial()) else {
+        unreachable();
+    };
+    let cells = modulus.degree() as usize;
+    let states = first_states(g, cells);
+    let Ok(word) = chosen_sum(&states[0..cells], modulus.power_of_x(length)) else {
+        unreachable();
+    };
+    let _ = g.load(word);
+}
+
+// The state and those that follow it, count in all; the generator moves on past them.
+fn first_states<G: Generator>(g: &mut G, count: usize) -> [u32; MAX_STATES]
+    requires { ⌜ count ≤ 32 ⌝ }
+    ensures same { λ _. ⌜ meaning (now (g .exit)) ≡ meaning (now (g .entry)) ⌝ }
+    ensures value { λ r. ⌜ take count r ≡ orbit (meaning (now (g .entry)) .next) count (state (now (g .entry))) ⌝ }
+    ensures size { λ r. ⌜ size r ≡ 32 ⌝ }
+{
+    let mut states = [0; MAX_STATES];
+    for i in 0..count {
+        states[i] = g.state();
+        g.step();
+    }
+    states
+}

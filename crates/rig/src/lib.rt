@@ -1,0 +1,7 @@
+// The rig: one generator, its seed and its clock.
+pub mod rig;
+pub mod run;
+
+pub use rig::Rig;
+pub use run::Answer;
+pub use run::Call;
