@@ -1,7 +1,7 @@
 -- Chosen sums, one item after the other.
-use mathlib.Core.Path.{_≡_, refl, sym, ap, ap₂, _∙_}
-use mathlib.Core.List.{List, [], _∷_}
-use Prim.Native.Nat.{ℕ, zero, suc, _+_, _/_, _%_, _≤_, _<_}
+use mathlib.Core.Path.{_≡_, sym, ap, ap₂, _∙_}
+use mathlib.Core.List.{List}
+use Prim.Native.Nat.{ℕ, _+_, _/_, _%_, _≤_, _<_}
 use native.Mathlib.Numerals.{add-one}
 use native.Mathlib.Nat.{mod-lt, zero-lt-suc}
 use native.Mathlib.Omega.{arith}
@@ -30,14 +30,16 @@ module _ {A : Type 0} (none : A) (plus : A → A → A)
         ∙ ap₂ (λ (y : A) (k : ℕ). plus sum (plus (taken none (left % 2) y) (chosen none plus (drop k xs) (left / 2)))) (sym read) (sym (add-one i))
         ∙ sym (associates sum (taken none (left % 2) x) (chosen none plus (drop (i + 1) xs) (left / 2)))
 
-    pub chosen-set : bitAnd left 1 ≡ 1 → with-rest xs (i + 1) (plus sum x) (left / 2) ≡ with-rest xs i sum left
-    chosen-set e =
-        sym (item ∙ ap (λ (b : ℕ). with-rest xs (i + 1) (plus sum (taken none b x)) (left / 2)) (sym (and-mask left 1) ∙ e))
+    pub chosen-set : (more added : A) → more ≡ added → added ≡ plus sum x → bitAnd left 1 ≡ 1 → with-rest xs (i + 1) more (left / 2) ≡ with-rest xs i sum left
+    chosen-set more added is adds e =
+        ap (λ (y : A). with-rest xs (i + 1) y (left / 2)) (is ∙ adds)
+        ∙ sym (item ∙ ap (λ (b : ℕ). with-rest xs (i + 1) (plus sum (taken none b x)) (left / 2)) (sym (and-mask left 1) ∙ e))
 
-    pub chosen-clear : (bitAnd left 1 ≡ 1 → ⊥) → with-rest xs (i + 1) sum (left / 2) ≡ with-rest xs i sum left
-    chosen-clear n =
+    pub chosen-clear : (more : A) → more ≡ sum → (bitAnd left 1 ≡ 1 → ⊥) → with-rest xs (i + 1) more (left / 2) ≡ with-rest xs i sum left
+    chosen-clear more is n =
         let low = mod-lt left (zero-lt-suc 1) in
         let clear : left % 2 ≡ 0 = omega (arith, and-mask left 1, n) in
-        sym
+        ap (λ (y : A). with-rest xs (i + 1) y (left / 2)) is
+        ∙ sym
         (item ∙ ap (λ (b : ℕ). with-rest xs (i + 1) (plus sum (taken none b x)) (left / 2)) clear
         ∙ ap (λ (y : A). with-rest xs (i + 1) y (left / 2)) (commutes sum none ∙ unit sum))

@@ -4,4 +4,5 @@ pub mod Cells
 pub mod Rings
 pub mod Taps
 pub mod Registers
-pub mod Piles
+pub mod Layers
+pub mod Heights

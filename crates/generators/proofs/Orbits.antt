@@ -2,7 +2,7 @@
 -- states that come next, gives the state after c steps.
 use mathlib.Core.Path.{_≡_, refl, sym, ap, ap₂, _∙_, subst}
 use mathlib.Core.List.{List, [], _∷_, _++_}
-use Prim.Native.Nat.{ℕ, zero, suc, _+_, _*_, _/_, _%_, _^_, _≤_, _<_}
+use Prim.Native.Nat.{ℕ, zero, suc, _+_, _-_, _*_, _/_, _%_, _^_, _<_}
 use native.Mathlib.Nat.{mod-lt, mod-eq-of-lt, zero-lt-suc, zero-mul, one-mul}
 use native.Mathlib.Numerals.{add-one}
 use native.Mathlib.Omega.{arith}
@@ -73,10 +73,12 @@ module _ (m : Meaning) (lawful : Lawful m) (s : ℕ) (h : s < 2 ^ m .cells) (c r
   pub jump-below : iterate (m .next) c s < 2 ^ m .cells
   jump-below = subst (λ (z : ℕ). z < 2 ^ m .cells) (sym iterate-act) (act-below (m .cells) (m .next) (lawful .next .below) r s h)
 
-  -- the states that a walk of n steps has kept, chosen by r
-  pub jump-word : (n word : ℕ) (states : List ℕ) → Degree (m .polynomial) n → take n states ≡ orbit (m .next) n s → word ≡ chosen 0 bitXor (take n states) r → word ≡ iterate (m .next) c s
+  -- the states that a walk of n steps has kept, chosen by r; a part of the places from 0 on has its length as n − 0
+  pub jump-word : (n word : ℕ) (states : List ℕ) → Degree (m .polynomial) n → take n states ≡ orbit (m .next) n s
+      → word ≡ chosen 0 bitXor (take (n - 0) states) r → word ≡ iterate (m .next) c s
   jump-word n word states hn passed is =
-      is ∙ ap (λ (items : List ℕ). chosen 0 bitXor items r) passed
+      let whole : n - 0 ≡ n = omega arith in
+      is ∙ ap (λ (k : ℕ). chosen 0 bitXor (take k states) r) whole ∙ ap (λ (items : List ℕ). chosen 0 bitXor items r) passed
       ∙ orbit-chosen (m .next) n r s (leaves-below (power-of-x c) (m .polynomial) r n hn l) ∙ sym iterate-act
 
 -- ---- the loop that walks and keeps the states it passes

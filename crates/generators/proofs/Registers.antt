@@ -1,9 +1,9 @@
 -- The polynomial of a register annihilates its step. Its digits from the highest down, acting in turn, bring the cells to
 -- cell n one by one, so that cell n of p acting on any state is the feedback taken twice; and as cells only move up, every
 -- cell of it is 0.
-use mathlib.Core.Path.{_≡_, refl, sym, ap, ap₂, _∙_, subst}
+use mathlib.Core.Path.{_≡_, refl, sym, ap, ap₂, _∙_}
 use Prim.Native.Nat.{ℕ, zero, suc, _+_, _-_, _*_, _/_, _%_, _^_, _≤_, _<_}
-use native.Mathlib.Nat.{mod-lt, mod-eq-of-lt, zero-lt-suc, zero-mul, one-mul, div-one}
+use native.Mathlib.Nat.{mod-lt, zero-lt-suc, zero-mul, one-mul, div-one}
 use native.Mathlib.Omega.{arith}
 use lib.Arith.{digits-div, digits-mod}
 use lib.Pow.{pow-pos, shr-shr}
@@ -16,9 +16,9 @@ use Rattle.gf2.proofs.Action.{act-step, act-one, act-commutes}
 use Rattle.gf2.proofs.Division.{half-shr, digit-below}
 use Rattle.gf2.proofs.Composition.{act-below}
 use Rattle.gf2.proofs.Words.{shift-word}
-use Rattle.rings.specs.Cells.{cell, word}
+use Rattle.rings.specs.Cells.{cell}
 use Rattle.rings.proofs.Cells.{cell-below, cell-digit, cell-sum, cells-same, word-digits, word-below, cell-word}
-use Rattle.generators.specs.Generators.{Lawful}
+use Rattle.generators.specs.Generators.{Lawful, plain}
 use Rattle.generators.specs.Registers.{coefficient, total, feedback, register-cell, register-next, taps}
 use Rattle.generators.proofs.Cells.{cell-of-zero, all-shown}
 use Rattle.generators.proofs.Taps.{total-same, feedback-ones}
@@ -144,7 +144,7 @@ module _ (p n : ℕ) where
         sym (at-next (act N p s) k (omega arith)) ∙ ap (λ (z : ℕ). cell n z (suc (suc k))) (sym (act-commutes N register-sum p s))
         ∙ cells-zero j (suc k) (N s) (omega arith)
 
-    pub register-lawful : 1 ≤ n → n ≤ 31 → Lawful (record { polynomial = p; cells = n; next = register-next p n; shown = λ s. s })
+    pub register-lawful : 1 ≤ n → n ≤ 31 → Lawful (plain p n (register-next p n))
     register-lawful low high =
         record {
           leading = leading;

@@ -1,7 +1,7 @@
 -- The polynomial of a ring annihilates its step. By the rule of a cell, cell k of any state is cell 1 of p_(k−1) acting on
 -- it. The cell past the last is 0, so cell 1 of p_n acting on any state is 0, and with it every cell.
-use mathlib.Core.Path.{_≡_, refl, sym, ap, ap₂, _∙_, subst}
-use Prim.Native.Nat.{ℕ, zero, suc, _+_, _*_, _/_, _%_, _^_, _≤_, _<_}
+use mathlib.Core.Path.{_≡_, sym, ap, ap₂, _∙_, subst}
+use Prim.Native.Nat.{ℕ, zero, suc, _+_, _*_, _%_, _^_, _≤_, _<_}
 use native.Mathlib.Nat.{mod-lt, zero-lt-suc, zero-mul, one-mul}
 use native.Mathlib.Omega.{arith}
 use lib.Pow.{pow-pos}
@@ -16,7 +16,7 @@ use Rattle.rings.specs.Cells.{cell, ring-next}
 use Rattle.rings.proofs.Degrees.{rule-below, recurrence-start, recurrence-step, recurrence-degree}
 use Rattle.rings.proofs.Cells.{cell-outside, cell-past, cell-below, cell-sum, cells-same}
 use Rattle.rings.proofs.Steps.{ring-below, ring-cell, ring-sum}
-use Rattle.generators.specs.Generators.{Lawful}
+use Rattle.generators.specs.Generators.{Lawful, plain}
 use Rattle.generators.proofs.Cells.{cell-of-zero, all-shown}
 
 module _ (n v : ℕ) where
@@ -92,7 +92,7 @@ module _ (n v : ℕ) where
       ∙ ap (λ (z : ℕ). cell n z 1) (act-swap N (ring-sum n v) a p s)
       ∙ sym (cells-are n (omega arith) .1 (act N a s)) ∙ cell-past n (act N a s) ∙ sym (cell-of-zero n (suc k)))
 
-  pub ring-lawful : (p : ℕ) → p ≡ recurrence n v → 1 ≤ n → n ≤ 31 → Lawful (record { polynomial = p; cells = n; next = ring-next n v; shown = λ s. s })
+  pub ring-lawful : (p : ℕ) → p ≡ recurrence n v → 1 ≤ n → n ≤ 31 → Lawful (plain p n (ring-next n v))
   ring-lawful p e low high =
       record {
         leading = subst (λ (z : ℕ). Degree z n) (sym e) (recurrence-degree n v);

@@ -1,5 +1,5 @@
 -- The word of taps is the polynomial with its digits reversed, and the parity of the tapped cells is the feedback.
-use mathlib.Core.Path.{_≡_, refl, sym, ap, ap₂, _∙_, subst}
+use mathlib.Core.Path.{_≡_, refl, sym, ap, ap₂, _∙_}
 use Prim.Native.Nat.{ℕ, zero, suc, _+_, _-_, _*_, _/_, _%_, _^_, _≤_, _<_}
 use native.Mathlib.Nat.{mod-lt, mod-eq-of-lt, mod-one, zero-lt-suc, div-one, mul-assoc, pow-suc}
 use native.Mathlib.Numerals.{one-add}

@@ -4,6 +4,7 @@
 --                      which word it shows at a state
 --   Lawful m        == the polynomial has the degree n, n is 1 to 31, both rules are linear on the states, and the
 --                      polynomial annihilates the next rule: N^i(s) summed over its exponents i is 0 for every state s
+--   plain p n f     == n cells with the polynomial p and the next rule f, all shown
 --   doubled m       == two steps of m at a time
 --   tapped m        == the word w that m shows, plus w shifted right by one
 --   iterate f c s   == f^c(s), f applied c times
@@ -32,6 +33,9 @@ pub record Lawful (m : Meaning) : Type 0 where
   pub next : Linear (m .cells) (m .next)
   pub shown : Linear (m .cells) (m .shown)
   pub annihilated : (s : ℕ) → s < 2 ^ m .cells → act (m .next) (m .polynomial) s ≡ 0
+
+abbrev pub plain : ℕ → ℕ → (ℕ → ℕ) → Meaning
+plain p n f = record { polynomial = p; cells = n; next = f; shown = λ s. s }
 
 abbrev pub doubled : Meaning → Meaning
 doubled m = record { polynomial = m .polynomial; cells = m .cells; next = λ s. m .next (m .next s); shown = m .shown }

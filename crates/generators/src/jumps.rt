@@ -16,6 +16,7 @@ pub fn jump<G: Generator>(g: &mut G, length: u64)
     ensures same { λ _. ⌜ meaning (now (g .exit)) ≡ meaning (now (g .entry)) ⌝ }
     ensures after { λ _. ⌜ state (now (g .exit)) ≡ iterate (meaning (now (g .entry)) .next) length (state (now (g .entry))) ⌝ }
 {
+    // A generator's polynomial has a degree from 1 on, and there are no more states than items in a sum.
     let Some(modulus) = Modulus::new(g.polynomial()) else {
         unreachable();
     };
@@ -36,7 +37,8 @@ fn first_states<G: Generator>(g: &mut G, count: usize) -> [u32; MAX_STATES]
 {
     let mut states = [0; MAX_STATES];
     for i in 0..count {
-        states[i] = g.state();
+        let state = g.state();
+        states[i] = state;
         g.step();
     }
     states

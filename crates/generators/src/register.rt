@@ -2,12 +2,13 @@
 ghost use mathlib.Core.Path.{_≡_};
 ghost use Prim.Native.Nat.{_^_, _<_};
 ghost use Rattle.rings.specs.Questions.{Answers, polynomial-refusal};
+ghost use Rattle.generators.specs.Generators.{plain};
 ghost use Rattle.generators.specs.Registers.{register-next, taps as taps-of};
 use crate::Generator;
 use gf2::Modulus;
 use rings::Refusal;
 
-// The register of a polynomial p. Cell i feeds back where p has x^(n−i), and the word of taps has such cells at 1.
+// The register of a polynomial p of degree n. Cell i feeds back where p has x^(n−i); the word of taps has those cells at 1.
 #[derive(Clone, Copy)]
 pub struct Register {
     modulus: Modulus,
@@ -25,6 +26,7 @@ impl Register {
         let Some(modulus) = Modulus::new(polynomial) else {
             return Err(Refusal::PolynomialBelowTwo);
         };
+        // Cell i stands in bit i − 1, and x^(n−i) in bit n − i.
         Ok(Register {
             modulus,
             taps: polynomial.reverse_bits() >> (32 - modulus.degree()),
@@ -35,7 +37,7 @@ impl Register {
 
 // A register shows its cells.
 pub impl Generator for Register as RegisterGenerator {
-    ghost meaning = { λ r. record { polynomial = r .modulus .polynomial; cells = r .modulus .degree; next = register-next (r .modulus .polynomial) (r .modulus .degree); shown = λ s. s } };
+    ghost meaning = { λ r. plain (r .modulus .polynomial) (r .modulus .degree) (register-next (r .modulus .polynomial) (r .modulus .degree)) };
 
     ghost state = { λ r. r .state };
 

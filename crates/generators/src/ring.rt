@@ -1,11 +1,12 @@
 // A ring as a generator: it shows its cells.
 ghost use Rattle.rings.specs.Cells.{ring-next};
+ghost use Rattle.generators.specs.Generators.{plain};
 use crate::Generator;
 use rings::Refusal;
 use rings::Ring;
 
 pub impl Generator for Ring as RingGenerator {
-    ghost meaning = { λ r. record { polynomial = r .polynomial; cells = r .vector .cells; next = ring-next (r .vector .cells) (r .vector .rules); shown = λ s. s } };
+    ghost meaning = { λ r. plain (r .polynomial) (r .vector .cells) (ring-next (r .vector .cells) (r .vector .rules)) };
 
     ghost state = { λ r. r .state };
 

@@ -1,6 +1,6 @@
 -- Polynomials that act one after the other: a product acts as its factors in turn, a square through the map taken
 -- twice, and modulo what acts as 0 only the remainder counts.
-use mathlib.Core.Path.{_≡_, refl, sym, ap, ap₂, _∙_}
+use mathlib.Core.Path.{_≡_, sym, ap, _∙_}
 use Prim.Native.Nat.{ℕ, _*_, _/_, _%_, _^_, _<_}
 use native.Mathlib.Nat.{mod-lt, zero-lt-suc}
 use lib.Arith.{bin-ind}

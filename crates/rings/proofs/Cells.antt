@@ -1,13 +1,13 @@
 -- Cells of a state: they add up, a state is known by them, and a word has the cells that it is made of.
 use mathlib.Core.Path.{_≡_, refl, sym, ap, ap₂, _∙_, subst}
 use mathlib.Core.Logic.{⊎-elim}
-use Prim.Native.Nat.{ℕ, zero, suc, _+_, _-_, _*_, _/_, _%_, _^_, _≤_, _<_}
+use Prim.Native.Nat.{ℕ, zero, suc, _+_, _-_, _*_, _/_, _%_, _^_, _<_}
 use native.Mathlib.Nat.{mod-lt, mod-eq-of-lt, mod-one, zero-lt-suc, div-eq-of-lt}
 use native.Mathlib.Numerals.{add-one, one-add}
 use native.Mathlib.Omega.{arith}
 use lib.Arith.{digits-lt}
 use lib.Pow.{pow-pos, field, mod-mod-pow, mod-pow-add, high, low}
-use lib.Bits.{bitXor, xor-shr, xor-mod, xor-lt, xor-add-and}
+use lib.Bits.{bitXor, xor-shr, xor-mod}
 use Rattle.std.proofs.str.Laws.{order}
 use Rattle.rings.specs.Cells.{cell, word}
 

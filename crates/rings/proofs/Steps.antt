@@ -1,18 +1,18 @@
 -- The step of a ring: its cells, its bound, that it is additive, and that it is one line of word operations.
-use mathlib.Core.Path.{_≡_, refl, sym, ap, ap₂, _∙_, subst}
+use mathlib.Core.Path.{_≡_, refl, sym, ap, ap₂, _∙_}
 use Prim.Native.Nat.{ℕ, zero, suc, _+_, _-_, _*_, _/_, _%_, _^_, _≤_, _<_}
-use native.Mathlib.Nat.{mod-lt, mod-eq-of-lt, zero-lt-suc, zero-mul, mul-mod-left, div-one}
+use native.Mathlib.Nat.{mod-lt, zero-lt-suc, mul-mod-left, div-one}
 use native.Mathlib.Numerals.{add-one, one-add}
 use native.Mathlib.Omega.{arith}
 use lib.Pow.{shr-shr}
-use lib.Bits.{bitAnd, bitXor, and-mask, and-shr, and-mod, and-zero-l, xor-shr, xor-mod, xor-lt, xor-add-and}
+use lib.Bits.{bitAnd, bitXor, and-mask, and-shr, and-mod, xor-shr, xor-lt, xor-add-and}
 use Rattle.std.proofs.shelf.Bits.{one-shl}
 use Rattle.gf2.proofs.Sums.{scaled-sum}
 use Rattle.gf2.proofs.Division.{double-shr}
 use Rattle.gf2.proofs.Words.{shift-word}
 use Rattle.rings.specs.Vectors.{rule}
-use Rattle.rings.specs.Cells.{cell, word, ring-next}
-use Rattle.rings.proofs.Cells.{cell-outside, cell-below, cell-digit, cell-sum, cells-same, word-digits, word-below, cell-word}
+use Rattle.rings.specs.Cells.{cell, ring-next}
+use Rattle.rings.proofs.Cells.{cell-outside, cell-digit, cell-sum, cells-same, word-digits, word-below, cell-word}
 
 module _ (n v : ℕ) where
   bits : (s k : ℕ) → (cell n s (k - 1) + rule v (k - 1) * cell n s k + cell n s (k + 1)) % 2 < 2

@@ -1,4 +1,4 @@
-use mathlib.Core.Path.{_≡_, refl, ap, _∙_, subst}
+use mathlib.Core.Path.{_≡_, refl, subst}
 use Prim.Native.Nat.{ℕ}
 use native.Mathlib.Omega.{arith}
 use lib.ListN.{take}
@@ -11,7 +11,7 @@ loop-i-holds g c = walked-none _ _ _ refl
 
 pub loop-i-again : need.loop-i-again
 loop-i-again g c =
-    walked-more _ _ _ _ _ _ (c .loop-i .i) (c .state .result) (c .loop-i .states) (c .loop-i .inv) (omega arith) (c .state .ensures) (c .step .ensures .same) (c .step .ensures .after)
+    walked-more _ _ _ _ _ _ (c .loop-i .i) (c .state-state .result) (c .loop-i .states) (c .loop-i .inv) (omega arith) (c .state-state .ensures) (c .step .ensures .same) (c .step .ensures .after)
 
 pub returns : need.returns
 returns g c =

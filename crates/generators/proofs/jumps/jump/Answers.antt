@@ -1,13 +1,10 @@
-use mathlib.Core.Path.{_≡_, sym, ap, _∙_, subst}
-use Prim.Native.Nat.{ℕ, _-_, _^_, _<_}
+use mathlib.Core.Path.{_≡_, _∙_, subst}
+use Prim.Native.Nat.{ℕ, _^_, _<_}
 use native.Mathlib.Omega.{arith}
-use lib.Bits.{bitXor}
-use lib.ListN.{take}
 use Rattle.gf2.specs.Algebra.{power-of-x, Degree, Leaves}
 use Rattle.gf2.proofs.Words.{degree-two}
 use Rattle.rings.proofs.Refusals.{word-accepted}
 use Rattle.generators.specs.Generators.{iterate}
-use Rattle.generators.specs.Chosen.{chosen}
 use Rattle.generators.proofs.Orbits.{jump-word, jump-below}
 use Rattle.generators.proofs.jumps.jump.Needs as need
 
@@ -29,11 +26,9 @@ returns g c =
     let own : c .in-Some .modulus .polynomial ≡ m .polynomial = c .in-Some .ensures tt .1 ∙ c .polynomial .ensures in
     let leaves : Leaves (power-of-x (c .args .length)) (m .polynomial) (c .power-of-x .result) =
     subst (λ (p : ℕ). Leaves (power-of-x (c .args .length)) p (c .power-of-x .result)) own (c .power-of-x .ensures) in
-    let whole : n - 0 ≡ n = omega arith in
     let lands : c .in-Ok .word ≡ iterate (m .next) (c .args .length) (t .state entry) =
     jump-word m (law .lawful entry) (t .state entry) (law .below entry) (c .args .length) (c .power-of-x .result) leaves n (c .in-Ok .word) (c .first-states-states .result)
-    (subst (λ (p : ℕ). Degree p n) own (c .degree-cells .ensures .leading)) (c .first-states-states .ensures .value)
-    (c .in-Ok .ensures tt .1 ∙ ap (λ (k : ℕ). chosen 0 bitXor (take k (c .first-states-states .result)) (c .power-of-x .result)) whole) in
+    (subst (λ (p : ℕ). Degree p n) own (c .degree-cells .ensures .leading)) (c .first-states-states .ensures .value) (c .in-Ok .ensures tt .1) in
     let fits : c .in-Ok .word < 2 ^ t .meaning walked .cells =
     rw (lands, same) (jump-below m (law .lawful entry) (t .state entry) (law .below entry) (c .args .length) (c .power-of-x .result) leaves) in
     record {

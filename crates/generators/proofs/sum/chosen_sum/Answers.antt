@@ -1,9 +1,7 @@
-use mathlib.Core.Path.{refl, sym, ap, _∙_}
-use Prim.Native.Nat.{_+_, _/_}
-use lib.ListN.{drop}
+use mathlib.Core.Path.{sym, ap, _∙_}
 use borrow.Author.Tests.{le-leb}
 use Rattle.generators.specs.Chosen.{chosen}
-use Rattle.generators.proofs.Chosen as turn
+use Rattle.generators.proofs.Chosen.{chosen-none, chosen-set, chosen-clear}
 use Rattle.generators.proofs.sum.chosen_sum.Needs as need
 use Rattle.generators.proofs.sum.chosen_sum.Needs.{then-left-eq1, else-left-eq1}
 
@@ -19,15 +17,13 @@ loop-item-again g c =
     let l = c .loop-item in
     let xs = c .args .items .now in
     let x = c .item-item .result in
-    let rest = chosen (t .zero) (t .plus) (drop (l .item-index + 1) xs) (l .left / 2) in
+    let sum = c .if-left-eq1 .sum in
     elim (c .if-left-eq1 .came) [
       | then-left-eq1 w ↦
-          ap (λ s. t .plus s rest) (w .sum-is ∙ w .plus-sum .ensures)
-          ∙ turn.chosen-set (t .zero) (t .plus) (law .unit) (law .commutes) (law .associates) xs (l .item-index) x (c .loop-item-test .taken) (c .item-item .is) (l .sum) (l .left) (w .if-left-eq1 .taken)
+          chosen-set (t .zero) (t .plus) (law .unit) (law .commutes) (law .associates) xs (l .item-index) x (c .loop-item-test .taken) (c .item-item .is) (l .sum) (l .left) sum (w .plus-sum .result) (w .sum-is) (w .plus-sum .ensures) (w .if-left-eq1 .taken)
           ∙ l .inv
       | else-left-eq1 w ↦
-          ap (λ s. t .plus s rest) (w .sum-is)
-          ∙ turn.chosen-clear (t .zero) (t .plus) (law .unit) (law .commutes) (law .associates) xs (l .item-index) x (c .loop-item-test .taken) (c .item-item .is) (l .sum) (l .left) (w .if-left-eq1 .left)
+          chosen-clear (t .zero) (t .plus) (law .unit) (law .commutes) (law .associates) xs (l .item-index) x (c .loop-item-test .taken) (c .item-item .is) (l .sum) (l .left) sum (w .sum-is) (w .if-left-eq1 .left)
           ∙ l .inv
     ]
 
@@ -37,5 +33,5 @@ returns g c =
     let law = g .T·Summand·met in
     let l = c .loop-item in (
       rw (le-leb _ 32 (c .if-items-gt-MAX-ITEMS .left)),
-      sym (turn.chosen-none (t .zero) (t .plus) (law .unit) (law .commutes) (law .associates) (c .args .items .now) (l .item-index) (l .sum) (l .left) (c .loop-item-test .left)) ∙ l .inv,
+      sym (chosen-none (t .zero) (t .plus) (law .unit) (law .commutes) (law .associates) (c .args .items .now) (l .item-index) (l .sum) (l .left) (c .loop-item-test .left)) ∙ l .inv,
     )

@@ -1,6 +1,6 @@
 -- Layers keep the laws of what lies below them.
-use mathlib.Core.Path.{_≡_, refl, sym, ap, _∙_}
-use Prim.Native.Nat.{ℕ, _/_, _^_, _≤_, _<_}
+use mathlib.Core.Path.{_≡_, sym, ap, _∙_}
+use Prim.Native.Nat.{ℕ, _/_, _^_, _<_}
 use native.Mathlib.Nat.{lt-of-le-of-lt}
 use lib.Pow.{shr-le}
 use lib.Bits.{bitXor, xor-shr, xor-lt}
