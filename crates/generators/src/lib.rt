@@ -15,6 +15,7 @@ pub use doubler::Doubler;
 pub use doubler::DoublerGenerator;
 pub use generator::Generator;
 pub use jumps::jump;
+pub use jumps::leap;
 pub use pile::Pile;
 pub use pile::PileGenerator;
 pub use register::Register;

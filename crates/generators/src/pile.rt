@@ -1,13 +1,9 @@
 // A pile of layers whose height is known only when the program runs.
 ghost use mathlib.Core.Path.{_≡_};
-ghost use Prim.Native.Nat.{ℕ, _≤_, _<_};
-ghost use Rattle.std.specs.declared.option.Option.the-variants.{None, Some};
 ghost use Rattle.generators.specs.Piles.{piled, tapped-word};
 use crate::Generator;
-use crate::jump;
+use crate::leap;
 use rings::Refusal;
-
-const MAX_DOUBLERS: u32 = 63;
 
 // So many doublers and taps over a generator, in whatever order: a doubler changes only the step, a tap only what is shown.
 #[derive(Drop)]
@@ -15,22 +11,17 @@ pub struct Pile<G> {
     below: G,
     doublers: u32,
     taps: u32,
-    ghost few: { doublers ≤ 63 },
 }
 
-impl<G: Generator + Drop> Pile<G> {
-    // None for more than 63 doublers, whose step would be longer than a jump can be.
-    pub fn over(below: G, doublers: u32, taps: u32) -> Option<Pile<G>>
-        ensures { λ r. ⌜ elim r [ None ↦ 63 < doublers | Some p ↦ (p .below ≡ below) × (p .doublers ≡ doublers) × (p .taps ≡ taps) ] ⌝ }
+impl<G: Generator> Pile<G> {
+    pub fn over(below: G, doublers: u32, taps: u32) -> Pile<G>
+        ensures { λ r. ⌜ (r .below ≡ below) × (r .doublers ≡ doublers) × (r .taps ≡ taps) ⌝ }
     {
-        if doublers > MAX_DOUBLERS {
-            return None;
-        }
-        Some(Pile {
+        Pile {
             below,
             doublers,
             taps,
-        })
+        }
     }
 }
 
@@ -53,7 +44,7 @@ pub impl<G: Generator> Generator for Pile<G> as PileGenerator {
 
     // One step of d doublers is 2^d steps below.
     fn step(&mut self) {
-        jump(&mut self.below, 1 << self.doublers);
+        leap(&mut self.below, self.doublers);
     }
 
     fn load(&mut self, word: u32) -> Result<(), Refusal> {
