@@ -3,7 +3,7 @@
 -- cell of it is 0.
 use mathlib.Core.Path.{_≡_, refl, sym, ap, ap₂, _∙_}
 use Prim.Native.Nat.{ℕ, zero, suc, _+_, _-_, _*_, _/_, _%_, _^_, _≤_, _<_}
-use native.Mathlib.Nat.{mod-lt, zero-lt-suc, zero-mul, one-mul, div-one}
+use native.Mathlib.Nat.{mod-lt, zero-lt-suc, div-one}
 use native.Mathlib.Omega.{arith}
 use lib.Arith.{digits-div, digits-mod}
 use lib.Pow.{pow-pos, shr-shr}
@@ -11,7 +11,7 @@ use lib.Bits.{bitAnd, bitOr, bitXor, and-mask, or-shifted, xor-lt, xor-add-and}
 use lib.Count.{ones}
 use Rattle.std.proofs.shelf.Bits.{one-shl}
 use Rattle.gf2.specs.Algebra.{act, Degree}
-use Rattle.gf2.proofs.Sums.{Additive, scaled-sum}
+use Rattle.gf2.proofs.Sums.{Additive, additive-digit, scaled-sum}
 use Rattle.gf2.proofs.Action.{act-step, act-one, act-commutes}
 use Rattle.gf2.proofs.Division.{half-shr, digit-below}
 use Rattle.gf2.proofs.Composition.{act-below}
@@ -36,11 +36,6 @@ total-sum (suc m) c a b h =
     let before = total-sum m c a b h in
     ap (λ (z : ℕ). (total m (λ i. c i * bitXor (a i) (b i)) + z) % 2) (scaled-sum (c k) (a k) (b k) (h k))
     ∙ omega (arith, before, xor-add-and (c k * a k) (c k * b k))
-
-cell-scaled : (n d s k : ℕ) → d < 2 → cell n (d * s) k ≡ d * cell n s k
-cell-scaled n zero s k h = ap (λ (z : ℕ). cell n z k) (zero-mul s) ∙ cell-of-zero n k ∙ sym (zero-mul (cell n s k))
-cell-scaled n (suc zero) s k h = ap (λ (z : ℕ). cell n z k) (one-mul s) ∙ sym (one-mul (cell n s k))
-cell-scaled n (suc (suc d)) s k h = absurd (omega arith)
 
 module _ (p n : ℕ) where
   abbrev N : ℕ → ℕ
@@ -101,7 +96,7 @@ module _ (p n : ℕ) where
       (ap (λ (z : ℕ). act N z (N s)) (shr-shr p (n - suc m) 1 ∙ ap (λ (z : ℕ). p / 2 ^ z) (omega (arith, down)))
       ∙ act-commutes N register-sum (upper m) s))
       ∙ cell-sum n (coefficient p (n - suc m) * s) (N (act N (upper m) s)) k
-      ∙ ap (λ (z : ℕ). bitXor z (cell n (N (act N (upper m) s)) k)) (cell-scaled n (coefficient p (n - suc m)) s k (coefficient-below p (n - suc m)))
+      ∙ ap (λ (z : ℕ). bitXor z (cell n (N (act N (upper m) s)) k)) (additive-digit (λ t. cell n t k) (λ t u. cell-sum n t u k) (coefficient p (n - suc m)) s (coefficient-below p (n - suc m)))
 
   abbrev term : ℕ → ℕ → ℕ
   term s i = coefficient p (n - i) * cell n s i

@@ -2,18 +2,18 @@
 -- it. The cell past the last is 0, so cell 1 of p_n acting on any state is 0, and with it every cell.
 use mathlib.Core.Path.{_≡_, sym, ap, ap₂, _∙_, subst}
 use Prim.Native.Nat.{ℕ, zero, suc, _+_, _*_, _%_, _^_, _≤_, _<_}
-use native.Mathlib.Nat.{mod-lt, zero-lt-suc, zero-mul, one-mul}
+use native.Mathlib.Nat.{mod-lt, zero-lt-suc}
 use native.Mathlib.Omega.{arith}
 use lib.Pow.{pow-pos}
 use lib.Bits.{bitXor, xor-lt, xor-add-and}
-use Rattle.gf2.specs.Algebra.{act, product, Degree}
-use Rattle.gf2.proofs.Action.{act-zero, act-one, act-double, act-additive}
-use Rattle.gf2.proofs.Ring.{mul-one-l, mul-sum-l, mul-x-l}
-use Rattle.gf2.proofs.Division.{mul-digit, digit-below}
+use Rattle.gf2.specs.Algebra.{act, Degree}
+use Rattle.gf2.proofs.Sums.{Additive, additive-zero, additive-digit}
+use Rattle.gf2.proofs.Action.{act-one, act-double, act-additive}
+use Rattle.gf2.proofs.Division.{digit-below}
 use Rattle.gf2.proofs.Composition.{act-swap, act-below}
 use Rattle.rings.specs.Vectors.{rule, recurrence-from, recurrence}
 use Rattle.rings.specs.Cells.{cell, ring-next}
-use Rattle.rings.proofs.Degrees.{rule-below, recurrence-start, recurrence-step, recurrence-degree}
+use Rattle.rings.proofs.Degrees.{rule-below, linear-factor, recurrence-start, recurrence-step, recurrence-degree}
 use Rattle.rings.proofs.Cells.{cell-outside, cell-past, cell-below, cell-sum, cells-same}
 use Rattle.rings.proofs.Steps.{ring-below, ring-cell, ring-sum}
 use Rattle.generators.specs.Generators.{Lawful, plain}
@@ -27,21 +27,8 @@ module _ (n v : ℕ) where
   abbrev first : ℕ → ℕ → ℕ
   first a s = cell n (act N a s) 1
 
-  first-sum : (a b s : ℕ) → first (bitXor a b) s ≡ bitXor (first a s) (first b s)
-  first-sum a b s = ap (λ (z : ℕ). cell n z 1) (act-additive N s a b) ∙ cell-sum n (act N a s) (act N b s) 1
-
-  first-zero : (s : ℕ) → first 0 s ≡ 0
-  first-zero s = ap (λ (z : ℕ). cell n z 1) (act-zero N s) ∙ cell-of-zero n 1
-
-  first-digit : (c a s : ℕ) → c < 2 → first (c * a) s ≡ c * first a s
-  first-digit zero a s h = ap (λ (z : ℕ). first z s) (zero-mul a) ∙ first-zero s ∙ sym (zero-mul (first a s))
-  first-digit (suc zero) a s h = ap (λ (z : ℕ). first z s) (one-mul a) ∙ sym (one-mul (first a s))
-  first-digit (suc (suc c)) a s h = absurd (omega arith)
-
-  -- (x + c)·a
-  linear-factor : (c a : ℕ) → c < 2 → product (bitXor 2 c) a ≡ bitXor (a * 2) (c * a)
-  linear-factor c a h =
-      mul-sum-l a 2 c ∙ ap₂ bitXor (mul-x-l 1 a ∙ ap (λ (z : ℕ). z * 2) (mul-one-l a)) (mul-digit c a h)
+  first-sum : (s : ℕ) → Additive (λ a. first a s)
+  first-sum s a b = ap (λ (z : ℕ). cell n z 1) (act-additive N s a b) ∙ cell-sum n (act N a s) (act N b s) 1
 
   first-step : (k s : ℕ) →
       first (recurrence-from (suc (suc k)) v) s
@@ -50,10 +37,10 @@ module _ (n v : ℕ) where
       let a = recurrence-from (suc k) v in
       let b = recurrence-from k v in
       ap (λ (z : ℕ). first z s) (recurrence-step v k ∙ ap (λ (z : ℕ). bitXor z b) (linear-factor (rule v k) a (rule-below v k)))
-      ∙ first-sum (bitXor (a * 2) (rule v k * a)) b s
+      ∙ first-sum s (bitXor (a * 2) (rule v k * a)) b
       ∙ ap (λ (z : ℕ). bitXor z (first b s))
-      (first-sum (a * 2) (rule v k * a) s
-      ∙ ap₂ bitXor (ap (λ (z : ℕ). cell n z 1) (act-double N a s)) (first-digit (rule v k) a s (rule-below v k)))
+      (first-sum s (a * 2) (rule v k * a)
+      ∙ ap₂ bitXor (ap (λ (z : ℕ). cell n z 1) (act-double N a s)) (additive-digit (λ z. first z s) (first-sum s) (rule v k) a (rule-below v k)))
 
   -- the rule of a cell, solved for its right neighbour
   solved : (a b d : ℕ) → a < 2 → b < 2 → d < 2 → bitXor (bitXor ((a + b + d) % 2) b) a ≡ d
@@ -65,7 +52,7 @@ module _ (n v : ℕ) where
   cells-are : (k : ℕ) → k ≤ n →
       ((s : ℕ) → cell n s k ≡ first (recurrence-from k v) s) × ((s : ℕ) → cell n s (suc k) ≡ first (recurrence-from (suc k) v) s)
   cells-are zero h = (
-    λ s. cell-outside n s ∙ sym (ap (λ (z : ℕ). first z s) (recurrence-start v .0) ∙ first-zero s),
+    λ s. cell-outside n s ∙ sym (ap (λ (z : ℕ). first z s) (recurrence-start v .0) ∙ additive-zero (λ a. first a s) (first-sum s)),
     λ s. sym (ap (λ (z : ℕ). cell n (act N z s) 1) (recurrence-start v .1) ∙ ap (λ (z : ℕ). cell n z 1) (act-one N s)),
   )
   cells-are (suc k) h =

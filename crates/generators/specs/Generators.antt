@@ -2,6 +2,7 @@
 --
 --   Meaning         == what a generator is: its polynomial, its number of cells, how a state follows on another, and
 --                      which word it shows at a state
+--   Linear n f      == f takes states of n cells to such states, and their sums to sums
 --   Lawful m        == the polynomial has the degree n, n is 1 to 31, both rules are linear on the states, and the
 --                      polynomial annihilates the next rule: N^i(s) summed over its exponents i is 0 for every state s
 --   plain p n f     == n cells with the polynomial p and the next rule f, all shown
@@ -21,7 +22,6 @@ pub record Meaning : Type 0 where
   pub next : ℕ → ℕ
   pub shown : ℕ → ℕ
 
--- f takes states of n cells to such states, and sums to sums
 pub record Linear (n : ℕ) (f : ℕ → ℕ) : Type 0 where
   pub below : (s : ℕ) → s < 2 ^ n → f s < 2 ^ n
   pub sum : (s t : ℕ) → s < 2 ^ n → t < 2 ^ n → f (bitXor s t) ≡ bitXor (f s) (f t)

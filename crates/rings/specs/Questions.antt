@@ -1,12 +1,12 @@
 -- Refusals: the number of each, and how a call asks its questions.
 --
---   number-of q      == the number of the question that was answered by no
---   place-of q       == the cell that the refusal names, if it names one
---   unless t q rest  == the refusal q where the test t fails, else what the questions after it give
---   Answers r q P    == r refuses with the refusal that q has, or q has none and r is a value that satisfies P
---   vector-refusal   == the questions to a number of cells and a vector, in their order
+--   number-of q        == the number of the question that was answered by no
+--   place-of q         == the cell that the refusal names, if it names one
+--   unless t q rest    == the refusal q where the test t fails, else what the questions after it give
+--   Answers r q P      == r refuses with the refusal that q has, or q has none and r is a value that satisfies P
+--   vector-refusal     == the questions to a number of cells and a vector, in their order
 --   polynomial-refusal == the question to a polynomial
---   word-refusal     == the question to a word that is to be a state of so many cells
+--   word-refusal       == the question to a word that is to be a state of so many cells
 use mathlib.Core.Path.{_≡_}
 use mathlib.Core.Bool.{Bool, true, false, _&&_}
 use Prim.Native.Nat.{ℕ, _^_}
