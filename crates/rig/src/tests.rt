@@ -33,7 +33,15 @@ fn patterns_of_a_ring() -> Result<(), Fail> {
 
 #[test]
 fn runs_answer_each_call(rt: LibcRuntime) -> Result<(), Fail> {
-    let calls = [Call::Show, Call::Seed(0), Call::Seed(32), Call::Seed(1), Call::Jump(4), Call::Show, Call::Clock];
+    let calls = [
+        Call::Show,
+        Call::Seed(0),
+        Call::Seed(32),
+        Call::Seed(1),
+        Call::Jump(4),
+        Call::Show,
+        Call::Clock,
+    ];
     let answers = run(rt.alloc(), Ring::new(5, 30)?, &calls)?;
     let mut numbers = [0u64; 7];
     for (place, answer) in answers.iter().enumerate() {

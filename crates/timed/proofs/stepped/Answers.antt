@@ -19,6 +19,7 @@ loop-i-holds c = (refl, none (ring-next (c .args .ring .vector .cells) (c .args 
 pub loop-i-again : need.loop-i-again
 loop-i-again c =
     let was = c .loop-i .inv in
-    let v = c .args .ring .vector in
-    (c .step .ensures .vector ∙ was .0,
-     c .step .ensures .after ∙ ap₂ (λ z (s : ℕ). ring-next (z .cells) (z .rules) s) (was .0) (was .1) ∙ more (ring-next (v .cells) (v .rules)) (c .loop-i .i) (c .args .ring .state))
+    let v = c .args .ring .vector in (
+      c .step .ensures .vector ∙ was .0,
+      c .step .ensures .after ∙ ap₂ (λ z (s : ℕ). ring-next (z .cells) (z .rules) s) (was .0) (was .1) ∙ more (ring-next (v .cells) (v .rules)) (c .loop-i .i) (c .args .ring .state),
+    )
