@@ -8,6 +8,8 @@
 uint32_t timed_product(uint32_t p, uint32_t a, uint32_t b);
 uint32_t timed_power_of_x(uint32_t p, uint64_t e);
 uint32_t timed_polynomial_of(uint32_t cells, uint32_t vector);
+uint32_t timed_steps(uint32_t cells, uint32_t vector, uint32_t state, uint32_t count);
+uint32_t timed_jump(uint32_t cells, uint32_t vector, uint32_t state, uint64_t length);
 
 #define P 0x80000009u /* x^31 + x^3 + 1 */
 #define MASK 0x7fffffffu
@@ -41,6 +43,11 @@ ROUND(c_power, 4000, plain_power_of_x(P, ((uint64_t)s << 30 | 1ull << 62) ^ r))
 ROUND(proved_polynomial, 400000, timed_polynomial_of(31, (s ^ r) & MASK))
 ROUND(c_polynomial, 400000, plain_polynomial_of(31, (s ^ r) & MASK))
 
+ROUND(proved_steps, 40, timed_steps(31, 2108737247u, (s ^ r) & MASK, 10000))
+ROUND(c_steps, 40, plain_steps(31, 2108737247u, (s ^ r) & MASK, 10000))
+ROUND(proved_jump, 4000, timed_jump(31, 2108737247u, (s ^ r) & MASK, (uint64_t)s << 30 | 1ull << 62))
+ROUND(c_jump, 4000, plain_jump(31, 2108737247u, (s ^ r) & MASK, (uint64_t)s << 30 | 1ull << 62))
+
 static int failures;
 
 /* The best of several rounds each, taken in turn. */
@@ -63,5 +70,7 @@ int main(void) {
     compare("product modulo p, degree 31", proved_product, c_product);
     compare("x^e modulo p, e about 2^62", proved_power, c_power);
     compare("polynomial of a vector, 31 cells", proved_polynomial, c_polynomial);
+    compare("10,000 steps of a ring, 31 cells", proved_steps, c_steps);
+    compare("jump of about 2^62, 31 cells", proved_jump, c_jump);
     return failures == 0 ? 0 : 1;
 }

@@ -53,3 +53,25 @@ uint32_t plain_polynomial_of(uint32_t cells, uint32_t vector) {
     }
     return current;
 }
+
+static uint32_t stepped(uint32_t cells, uint32_t vector, uint32_t s) {
+    uint32_t mask = (1u << cells) - 1;
+    return (s << 1 ^ (s & vector) ^ s >> 1) & mask;
+}
+
+uint32_t plain_steps(uint32_t cells, uint32_t vector, uint32_t state, uint32_t count) {
+    if (cells == 0 || cells > 31 || vector >> cells != 0 || state >> cells != 0) return 0;
+    if (plain_polynomial_of(cells, vector) == 0) return 0;
+    for (uint32_t i = 0; i < count; i++) state = stepped(cells, vector, state);
+    return state;
+}
+
+uint32_t plain_jump(uint32_t cells, uint32_t vector, uint32_t state, uint64_t length) {
+    if (cells == 0 || cells > 31 || vector >> cells != 0 || state >> cells != 0) return 0;
+    uint32_t residue = plain_power_of_x(plain_polynomial_of(cells, vector), length), sum = 0;
+    for (uint32_t i = 0; i < cells; i++) {
+        if (residue >> i & 1) sum ^= state;
+        state = stepped(cells, vector, state);
+    }
+    return sum;
+}

@@ -80,8 +80,33 @@ fn lines_that_are_not_understood(rt: LibcRuntime) -> Result<(), Fail> {
     for line in [&b""[..], &b"Multiply 6 24"[..], &b"\xff\x00"[..]] {
         check_eq(
             answered(heap, line)?.as_str(),
-            "line 3: not understood, expected a command: multiply",
+            "line 3: not understood, expected a command: multiply, pattern, register",
         )?;
     }
     Ok(())
+}
+
+#[test]
+fn answers_to_pattern_and_register(rt: LibcRuntime) -> Result<(), Fail> {
+    let heap = rt.alloc();
+    check_eq(
+        answered(heap, b"pattern 5 30 1 4")?.as_str(),
+        "pattern 5 30 1 4: 25",
+    )?;
+    check_eq(
+        answered(heap, b"pattern 5 30 1 2 doubler")?.as_str(),
+        "pattern 5 30 1 2 doubler: 25",
+    )?;
+    check_eq(
+        answered(heap, b"pattern 5 30 0 1")?.as_str(),
+        "pattern 5 30 0 1: refused 12",
+    )?;
+    check_eq(
+        answered(heap, b"register 37 1 3")?.as_str(),
+        "register 37 1 3: 9",
+    )?;
+    check_eq(
+        answered(heap, b"register 1 1 3")?.as_str(),
+        "register 1 1 3: refused 1",
+    )
 }

@@ -41,11 +41,11 @@ degree-unique p m n e f =
     (λ h. ⊎-elim (λ k. absurd (degree-unordered p n m f e k)) (λ k. omega arith) (order n m))
     (order m n)
 
-double-shr : (a n : ℕ) → a * 2 / 2 ^ suc n ≡ a / 2 ^ n
+pub double-shr : (a n : ℕ) → a * 2 / 2 ^ suc n ≡ a / 2 ^ n
 double-shr a n =
     ap (λ (z : ℕ). a * 2 / 2 ^ z) (sym (one-add n)) ∙ sym (shr-shr (a * 2) 1 n) ∙ ap (λ (z : ℕ). z / 2 ^ n) (mul-div-cancel a (zero-lt-suc 1))
 
-half-shr : (a n : ℕ) → a / 2 / 2 ^ n ≡ a / 2 ^ suc n
+pub half-shr : (a n : ℕ) → a / 2 / 2 ^ n ≡ a / 2 ^ suc n
 half-shr a n = shr-shr a 1 n ∙ ap (λ (z : ℕ). a / 2 ^ z) (one-add n)
 
 -- a constant, 0 or 1, times p
@@ -60,7 +60,7 @@ mul-step q p =
     ap (λ (z : ℕ). product z p) (sym (by-digits q)) ∙ mul-sum-l p (q / 2 * 2) (q % 2)
     ∙ ap₂ bitXor (mul-x-l (q / 2) p) (mul-digit (q % 2) p (mod-lt q (zero-lt-suc 1)))
 
-digit-below : (d p n : ℕ) → d < 2 → p < 2 ^ n → d * p < 2 ^ n
+pub digit-below : (d p n : ℕ) → d < 2 → p < 2 ^ n → d * p < 2 ^ n
 digit-below zero p n h k = subst (λ (z : ℕ). z < 2 ^ n) (sym (zero-mul p)) (pow-pos n)
 digit-below (suc zero) p n h k = subst (λ (z : ℕ). z < 2 ^ n) (sym (one-mul p)) k
 digit-below (suc (suc d)) p n h k = absurd (omega arith)

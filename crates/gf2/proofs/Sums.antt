@@ -49,6 +49,12 @@ Additive f = (a b : ℕ) → f (bitXor a b) ≡ bitXor (f a) (f b)
 pub additive-zero : (f : ℕ → ℕ) → Additive f → f 0 ≡ 0
 additive-zero f h = sym (xor-cancel (f 0) (f 0)) ∙ ap (bitXor (f 0)) (sym (h 0 0)) ∙ xor-self (f 0)
 
+-- a constant, 0 or 1, comes out of an additive map
+pub additive-digit : (f : ℕ → ℕ) → Additive f → (d s : ℕ) → d < 2 → f (d * s) ≡ d * f s
+additive-digit f h zero s l = ap f (zero-mul s) ∙ additive-zero f h ∙ sym (zero-mul (f s))
+additive-digit f h (suc zero) s l = ap f (one-mul s) ∙ sym (one-mul (f s))
+additive-digit f h (suc (suc d)) s l = absurd (omega arith)
+
 -- Two maps that are additive in their first argument, agree at 1, and agree at x·a wherever they agree at a, agree.
 module _ {S : Type 0} (f g : ℕ → S → ℕ)
     (hf : (s : S) → Additive (λ a. f a s)) (hg : (s : S) → Additive (λ a. g a s))

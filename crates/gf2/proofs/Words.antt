@@ -47,11 +47,23 @@ pub power-zero : power-of-x 0 ≡ 1
 unfolding power-of-x
 power-zero = refl
 
+pub power-one : power-of-x 1 ≡ 2
+unfolding power-of-x
+power-one = refl
+
 pub power-sum : (j k : ℕ) → product (power-of-x j) (power-of-x k) ≡ power-of-x (j + k)
 power-sum zero k = ap (λ (z : ℕ). product z (power-of-x k)) power-zero ∙ mul-one-l (power-of-x k) ∙ ap power-of-x (sym (zero-add k))
 power-sum (suc j) k =
     ap (λ (z : ℕ). product z (power-of-x k)) (power-suc j) ∙ mul-x-l (power-of-x j) (power-of-x k)
     ∙ ap times-x (power-sum j k) ∙ sym (power-suc (j + k)) ∙ ap power-of-x (sym (suc-add j k))
+
+-- x^(2^(d+1)) is the square of x^(2^d)
+pub power-square : (d : ℕ) → power-of-x (2 ^ (d + 1)) ≡ product (power-of-x (2 ^ d)) (power-of-x (2 ^ d))
+power-square d =
+    ap power-of-x (ap (λ (n : ℕ). 2 ^ n) (add-one d) ∙ pow-suc 2 d ∙ mul-two (2 ^ d)) ∙ sym (power-sum (2 ^ d) (2 ^ d))
+  where
+    mul-two : (a : ℕ) → a * 2 ≡ a + a
+    mul-two a = omega arith
 
 -- ---- loops from the highest digit down: the digits from i on, then one more
 

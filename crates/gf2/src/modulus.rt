@@ -1,6 +1,6 @@
 // Arithmetic modulo a polynomial of degree 1 to 31.
 ghost use mathlib.Core.Path.{_≡_};
-ghost use Prim.Native.Nat.{ℕ, _*_, _≤_, _<_};
+ghost use Prim.Native.Nat.{ℕ, _*_, _^_, _≤_, _<_};
 ghost use Rattle.std.specs.declared.option.Option.the-variants.{None, Some};
 ghost use Rattle.gf2.specs.Algebra.{times-x, power-of-x, product as times, Degree, Leaves};
 ghost use Rattle.gf2.specs.Laws.{Division};
@@ -72,6 +72,17 @@ impl Modulus {
             if e >> i & 1 == 1 {
                 r = self.times_x(r);
             }
+        }
+        r
+    }
+
+    // What x^(2^d) leaves: x squared d times over.
+    pub fn frobenius_of_x(&self, d: u32) -> u32
+        ensures { λ r. ⌜ Leaves (power-of-x (2 ^ d)) (now (self .entry) .polynomial) r ⌝ }
+    {
+        let mut r = self.remainder(2);
+        for i in 0..d {
+            r = self.multiple(r, r);
         }
         r
     }

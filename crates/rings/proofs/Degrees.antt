@@ -12,17 +12,21 @@ use Rattle.gf2.proofs.Division.{degree-product, degree-below, mul-digit}
 use Rattle.gf2.proofs.Words.{shift-word}
 use Rattle.rings.specs.Vectors.{rule, recurrence-from, recurrence}
 
-rule-below : (v k : ℕ) → rule v k < 2
+pub rule-below : (v k : ℕ) → rule v k < 2
 rule-below v k = mod-lt (v / 2 ^ k) (zero-lt-suc 1)
 
-recurrence-step : (v k : ℕ) →
+pub recurrence-step : (v k : ℕ) →
     recurrence-from (suc (suc k)) v ≡ bitXor (product (bitXor 2 (rule v k)) (recurrence-from (suc k) v)) (recurrence-from k v)
 unfolding recurrence-from
 recurrence-step v k = refl
 
-recurrence-start : (v : ℕ) → (recurrence-from 0 v ≡ 0) × (recurrence-from 1 v ≡ 1)
+pub recurrence-start : (v : ℕ) → (recurrence-from 0 v ≡ 0) × (recurrence-from 1 v ≡ 1)
 unfolding recurrence-from
 recurrence-start v = (refl, refl)
+
+-- (x + c)·a
+pub linear-factor : (c a : ℕ) → c < 2 → product (bitXor 2 c) a ≡ bitXor (a * 2) (c * a)
+linear-factor c a h = mul-sum-l a 2 c ∙ ap₂ bitXor (mul-x-l 1 a ∙ ap (λ (z : ℕ). z * 2) (mul-one-l a)) (mul-digit c a h)
 
 -- x + c has degree 1
 linear : (c : ℕ) → c < 2 → Degree (bitXor 2 c) 1
@@ -70,9 +74,7 @@ module _ (v k before current : ℕ) (few : k < 31) (h : Pair v k before current)
   next-is : (own : ℕ) → rule v k * current ≡ own → bitXor (bitXor (current * 2 % 2 ^ 32) own) before ≡ recurrence-from (suc (suc k)) v
   next-is own e =
       ap₂ (λ (x y : ℕ). bitXor (bitXor x y) before) shifted (sym e)
-      ∙ ap (λ (z : ℕ). bitXor z before) (sym
-      (mul-sum-l current 2 (rule v k)
-      ∙ ap₂ bitXor (mul-x-l 1 current ∙ ap (λ (z : ℕ). z * 2) (mul-one-l current)) (mul-digit (rule v k) current (rule-below v k))))
+      ∙ ap (λ (z : ℕ). bitXor z before) (sym (linear-factor (rule v k) current (rule-below v k)))
       ∙ ap₂ (λ (x y : ℕ). bitXor (product (bitXor 2 (rule v k)) x) y) (h .current-is) (h .before-is)
       ∙ sym (recurrence-step v k)
 

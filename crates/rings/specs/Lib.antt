@@ -1,3 +1,4 @@
 pub mod Determinant
 pub mod Vectors
+pub mod Cells
 pub mod Questions

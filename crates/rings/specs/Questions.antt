@@ -1,11 +1,12 @@
 -- Refusals: the number of each, and how a call asks its questions.
 --
---   number-of q      == the number of the question that was answered by no
---   place-of q       == the cell that the refusal names, if it names one
---   unless t q rest  == the refusal q where the test t fails, else what the questions after it give
---   Answers r q P    == r refuses with the refusal that q has, or q has none and r is a value that satisfies P
---   vector-refusal   == the questions to a number of cells and a vector, in their order
---   word-refusal     == the question to a word that is to be a state of so many cells
+--   number-of q        == the number of the question that was answered by no
+--   place-of q         == the cell that the refusal names, if it names one
+--   unless t q rest    == the refusal q where the test t fails, else what the questions after it give
+--   Answers r q P      == r refuses with the refusal that q has, or q has none and r is a value that satisfies P
+--   vector-refusal     == the questions to a number of cells and a vector, in their order
+--   polynomial-refusal == the question to a polynomial
+--   word-refusal       == the question to a word that is to be a state of so many cells
 use mathlib.Core.Path.{_≡_}
 use mathlib.Core.Bool.{Bool, true, false, _&&_}
 use Prim.Native.Nat.{ℕ, _^_}
@@ -87,6 +88,10 @@ Answers (Err e) q P = q ≡ Some e
 abbrev pub vector-refusal : ℕ → ℕ → Option Refusal
 vector-refusal cells vector =
     unless (leb 1 cells && leb cells 31) CellCount (unless (ltb vector (2 ^ cells)) VectorTooLarge None)
+
+-- A polynomial from 2 on?
+abbrev pub polynomial-refusal : ℕ → Option Refusal
+polynomial-refusal polynomial = unless (leb 2 polynomial) PolynomialBelowTwo None
 
 -- A word below 2^cells?
 abbrev pub word-refusal : ℕ → ℕ → Option Refusal

@@ -6,6 +6,8 @@ ghost use Rattle.rings.specs.Vectors.{polynomial-of, recurrence};
 use crate::Refusal;
 use crate::RuleVector;
 
+mod moves;
+
 // A ring keeps its vector, the polynomial of that very vector, and a state with cell k in bit k − 1.
 #[derive(Clone, Copy)]
 pub struct Ring {

@@ -1,0 +1,4 @@
+pub mod Generators
+pub mod Registers
+pub mod Chosen
+pub mod Piles
