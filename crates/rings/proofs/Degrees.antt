@@ -34,7 +34,7 @@ linear zero h = refl
 linear (suc zero) h = refl
 linear (suc (suc c)) h = absurd (omega arith)
 
-degrees : (v k : ℕ) → Degree (recurrence-from (suc k) v) k × (recurrence-from k v < 2 ^ k)
+pub degrees : (v k : ℕ) → Degree (recurrence-from (suc k) v) k × (recurrence-from k v < 2 ^ k)
 unfolding recurrence-from
 degrees v zero = (refl, omega arith)
 degrees v (suc k) =

@@ -1,0 +1,10 @@
+pub mod Identity
+pub mod Words
+pub mod Parities
+pub mod Systems
+pub mod Spans
+pub mod Undone
+pub mod Completeness
+pub mod Wanted
+pub mod Runs
+pub mod Pinned
