@@ -24,7 +24,7 @@ pub struct Candidates {
 }
 
 impl Candidates {
-    pub fn of(modulus: Modulus) -> Candidates
+    pub(crate) fn of(modulus: Modulus) -> Candidates
         ensures { λ r. ⌜ r .modulus ≡ modulus ⌝ }
     {
         Candidates {
@@ -33,14 +33,14 @@ impl Candidates {
         }
     }
 
-    pub fn cells(&self) -> u32
+    pub(crate) fn cells(&self) -> u32
         ensures { λ r. ⌜ r ≡ now (self .entry) .modulus .degree ⌝ }
     {
         self.modulus.degree()
     }
 
     // The smallest vector of the polynomial that obeys the pins and is not below from.
-    pub fn least(&self, pins: &Pins, from: u32) -> Option<u32>
+    pub(crate) fn least(&self, pins: &Pins, from: u32) -> Option<u32>
         ensures { λ r. ⌜ Least (Wanted (now (self .entry) .modulus .degree) (now (self .entry) .modulus .polynomial) (now (pins .entry)) from) r ⌝ }
     {
         let mut best = None;

@@ -8,7 +8,7 @@ pub const MAX_CELLS: usize = 31;
 pub type Pins = [Option<u32>; MAX_CELLS];
 
 // Whether each pinned cell of the vector has the value of its pin.
-pub fn obeyed(pins: &Pins, vector: u32) -> bool
+pub(crate) fn obeyed(pins: &Pins, vector: u32) -> bool
     ensures { λ r. ⌜ r ≡ fits (now (pins .entry)) vector ⌝ }
 {
     let mut left = vector;

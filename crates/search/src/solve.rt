@@ -16,7 +16,11 @@ pub const UNKNOWNS: usize = 32;
 const EQUATIONS: u32 = 64;
 
 // Expressions for the words below 2^cells whose columns add up to the constant, coefficient by coefficient.
-pub fn solve(columns: &[u64; UNKNOWNS], constant: u64, cells: u32) -> Option<[Equation; UNKNOWNS]>
+pub(crate) fn solve(
+    columns: &[u64; UNKNOWNS],
+    constant: u64,
+    cells: u32,
+) -> Option<[Equation; UNKNOWNS]>
     requires { ⌜ cells ≤ 31 ⌝ }
     ensures { λ r. ⌜ elim r [ None ↦ Unsolvable cells (now (columns .entry)) constant | Some es ↦ Solved cells (now (columns .entry)) constant 64 es ] ⌝ }
 {
@@ -76,7 +80,7 @@ fn substitute(expressions: &mut [Equation; UNKNOWNS], parameter: u32, e: Equatio
 }
 
 // The word whose bit j is the value of expression j.
-pub fn evaluate(expressions: &[Equation; UNKNOWNS], m: u32) -> u32
+pub(crate) fn evaluate(expressions: &[Equation; UNKNOWNS], m: u32) -> u32
     ensures { λ r. ⌜ r ≡ evaluated (now (expressions .entry)) m ⌝ }
 {
     let mut word = 0;

@@ -19,7 +19,7 @@ pub struct Span {
 
 impl Span {
     // No word at all.
-    pub fn empty() -> Span
+    pub(crate) fn empty() -> Span
         ensures { λ r. ⌜ r .words ≡ 0 ⌝ }
     {
         Span {
@@ -29,7 +29,7 @@ impl Span {
         }
     }
 
-    pub fn of(expressions: &[Equation; UNKNOWNS], cells: u32) -> Span
+    pub(crate) fn of(expressions: &[Equation; UNKNOWNS], cells: u32) -> Span
         requires { ⌜ cells ≤ 31 ⌝ }
         ensures { λ r. ⌜ ((y : ℕ) → y < 2 ^ cells → Covers r (evaluated (now (expressions .entry)) y)) ⌝ }
     {
@@ -50,13 +50,13 @@ impl Span {
         }
     }
 
-    pub fn words(&self) -> u32
+    pub(crate) fn words(&self) -> u32
         ensures { λ r. ⌜ r ≡ now (self .entry) .words ⌝ }
     {
         self.words
     }
 
-    pub fn word(&self, t: u32) -> u32
+    pub(crate) fn word(&self, t: u32) -> u32
         ensures { λ r. ⌜ r ≡ word-at (now (self .entry)) t ⌝ }
     {
         let Ok(sum) = chosen_sum(&self.directions, t) else {

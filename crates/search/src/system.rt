@@ -9,7 +9,7 @@ use gf2::derivative;
 use gf2::product;
 
 // The images of 1, x, x², …, below the degree.
-pub fn columns(p: u32, cells: u32) -> [u64; UNKNOWNS]
+pub(crate) fn columns(p: u32, cells: u32) -> [u64; UNKNOWNS]
     requires { ⌜ cells ≤ 31 ⌝ }
     ensures { λ r. ⌜ ((y : ℕ) → y < 2 ^ cells → chosen 0 bitXor r y ≡ image-of p y) ⌝ }
 {
