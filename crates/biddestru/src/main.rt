@@ -1,4 +1,6 @@
 // Answers the command that the words after the program's name make, or, without any, each line of standard input.
+#![tactic(auto)]
+
 use commands::answer_line;
 use std::env;
 use std::io::{BufRead, BufReader, Write};

@@ -1,4 +1,6 @@
 // The command line as a library: a line of bytes in, the line that answers it out.
+#![tactic(auto)]
+
 pub mod answer;
 pub mod command;
 pub mod numbers;

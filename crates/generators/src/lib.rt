@@ -1,5 +1,7 @@
 // Linear generators over states of 1 to 31 cells: rings, registers and layers over them, and the jump over any number of
 // steps, which is one for all.
+#![tactic(auto)]
+
 pub mod doubler;
 pub mod generator;
 pub mod jumps;

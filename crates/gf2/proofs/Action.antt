@@ -1,12 +1,12 @@
 -- A polynomial acting through a map: its lowest digit apart, then additive in the polynomial and, where the map is
 -- additive, in what it acts on.
-use Rattle.std.proofs.Common.{◌≡◌, ℕ, zero, suc, ◌+◌, ◌*◌, ◌/◌, ◌%◌, ◌<◌, ◌≤◌, sym, refl, ap, ◌∙◌, ap₂, le_refl, not-suc-le-zero, mod-lt, zero-lt-suc, one-mul, zero-mul, mul-div_cancel}
+use Rattle.std.proofs.Common.{◌≡◌, ℕ, zero, suc, ◌*◌, ◌/◌, ◌%◌, ◌≤◌, sym, refl, ap, ◌∙◌, ap₂, le_refl, not-suc-le-zero, mod-lt, zero-lt-suc, one-mul, zero-mul, mul-div_cancel}
 use native.Mathlib.Nat.{mul-mod_left}
 use native.Mathlib.Decide.{le_ind}
 use lib.Arith.{bin_ind, half_le}
 use lib.Bits.{bit_xor, xor_zero_r, xor_shr, xor_mod}
 use Rattle.gf2.specs.Algebra.{act_by, act}
-use Rattle.gf2.proofs.Sums.{Additive, agree, additive_zero, digit_sum, xor_swap}
+use Rattle.gf2.proofs.Sums.{Additive, agree, digit_sum, xor_swap}
 
 module _ (f : ℕ → ℕ) where
   more : (n a s : ℕ) → a ≤ n → act_by (suc n) f a s ≡ act_by n f a s

@@ -1,5 +1,5 @@
 -- The formal derivative is additive and keeps the product rule.
-use Rattle.std.proofs.Common.{◌≡◌, ℕ, zero, suc, ◌+◌, ◌*◌, ◌/◌, ◌%◌, ◌<◌, ◌≤◌, sym, refl, ap, ◌∙◌, ap₂, le_refl, not-suc-le-zero, zero-lt-suc, mul-div_cancel}
+use Rattle.std.proofs.Common.{◌≡◌, ℕ, zero, suc, ◌*◌, ◌/◌, ◌≤◌, sym, refl, ap, ◌∙◌, ap₂, le_refl, not-suc-le-zero, zero-lt-suc, mul-div_cancel}
 use native.Mathlib.Decide.{le_ind}
 use lib.Arith.{bin_ind, half_le}
 use lib.Bits.{bit_xor, xor_shr, xor_assoc}

@@ -1,5 +1,5 @@
 -- Degrees, and division with remainder: a quotient exists, and the remainder is one number.
-use Rattle.std.proofs.Common.{◌≡◌, ℕ, zero, suc, ◌+◌, ◌*◌, ◌/◌, ◌%◌, ◌^◌, ◌<◌, ◌≤◌, ◌⊎◌, sym, refl, ap, ◌∙◌, subst, ap₂, inl, inr, ⊎_elim, lt_of_lt_of_le, add-zero, mod-lt, zero-lt-suc, div-lt_iff_lt-mul, eq-zero-or-pos, suc-add, one-mul, pow-suc, le-div_iff_mul-le, zero-add, zero-mul, div-one, mul-div_cancel, add-one, one-add, arith, pow_pos, pow_mono, shr-shr}
+use Rattle.std.proofs.Common.{◌≡◌, ℕ, zero, suc, ◌+◌, ◌*◌, ◌/◌, ◌%◌, ◌^◌, ◌<◌, ◌≤◌, sym, ap, ◌∙◌, subst, ap₂, ⊎_elim, lt_of_lt_of_le, mod-lt, zero-lt-suc, div-lt_iff_lt-mul, eq-zero-or-pos, suc-add, one-mul, pow-suc, le-div_iff_mul-le, zero-add, zero-mul, div-one, mul-div_cancel, one-add, arith, pow_pos, pow_mono, shr-shr}
 use native.Mathlib.Nat.{div-eq_of_lt}
 use lib.Arith.{bin_ind, lt-one}
 use lib.Bits.{bit_xor, xor_shr, xor_self, xor_comm, xor_assoc, xor_zero_r, xor_lt}

@@ -1,7 +1,7 @@
 -- The ring laws of the product.
-use Rattle.std.proofs.Common.{◌≡◌, ℕ, zero, suc, ◌+◌, ◌*◌, ◌/◌, ◌%◌, ◌^◌, ◌<◌, sym, refl, ap, ◌∙◌, ap₂}
+use Rattle.std.proofs.Common.{◌≡◌, ℕ, ◌*◌, sym, refl, ap, ◌∙◌}
 use lib.Bits.{bit_xor}
-use Rattle.gf2.specs.Algebra.{act, times_x, product}
+use Rattle.gf2.specs.Algebra.{times_x, product}
 use Rattle.gf2.proofs.Sums.{Additive, agree, xor_double, sums}
 use Rattle.gf2.proofs.Action as action
 

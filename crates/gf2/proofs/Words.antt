@@ -7,9 +7,9 @@ use Rattle.std.proofs.str.Laws.{order}
 use lib.Count.{count_leading_zeros, leading_top, leading_length}
 use Rattle.gf2.specs.Algebra.{product, derivative, power_of_x, times_x, Degree, Leaves}
 use Rattle.gf2.proofs.Sums.{by_digits, xor_double, sums}
-use Rattle.gf2.proofs.Ring.{mul_sum_l, mul_x_l, mul_x_r, mul_one_l, mul_one_r}
+use Rattle.gf2.proofs.Ring.{mul_sum_l, mul_x_l, mul_one_l}
 use Rattle.gf2.proofs.Derivation.{derivative_zero, derivative_step}
-use Rattle.gf2.proofs.Division.{degree_above, degree_below, mul_below, mul_digit, leaves_sum, leaves_self, leaves_x_short, leaves_x_long, leaves_below}
+use Rattle.gf2.proofs.Division.{degree_above, mul_below, mul_digit, leaves_x_short, leaves_x_long, leaves_below}
 
 pub degree_word : (a : ℕ) → (a ≡ 0 → ⊥) → a < 2 ^ 32 → Degree a (31 - count_leading_zeros 32 a)
 degree_word a h w =

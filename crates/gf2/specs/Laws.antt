@@ -3,7 +3,7 @@
 --   Ring       == sum and product make a commutative ring with 1, in which degrees add up
 --   Derivation == the formal derivative is additive and keeps the product rule
 --   Division   == every polynomial leaves something modulo p, and only one thing
-use Rattle.std.specs.Prelude.{◌≡◌, ℕ, ◌+◌, ◌<◌, bit_xor}
+use Rattle.std.specs.Prelude.{◌≡◌, ℕ, ◌+◌, bit_xor}
 use Rattle.gf2.specs.Algebra.{product, derivative, Degree, Leaves}
 
 pub record Ring : Type 0 where

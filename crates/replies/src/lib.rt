@@ -1,4 +1,6 @@
 // The lines that answer commands.
+#![tactic(auto)]
+
 pub mod answer;
 mod outcomes;
 mod patterns;

@@ -1,4 +1,6 @@
 // What the lines of the command line ask for.
+#![tactic(auto)]
+
 pub mod call;
 pub mod command;
 pub mod name;

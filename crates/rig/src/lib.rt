@@ -1,4 +1,6 @@
 // The rig: one generator, its seed and its clock.
+#![tactic(auto)]
+
 pub mod rig;
 pub mod run;
 #[cfg(test)]

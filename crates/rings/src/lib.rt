@@ -1,5 +1,7 @@
 // Rule vectors of 90/150 rings: the polynomial of a vector, the ring that is built from one, and the refusals that all
 // calls of the product share.
+#![tactic(auto)]
+
 pub mod refusal;
 pub mod ring;
 #[cfg(test)]

@@ -1,4 +1,6 @@
 // Runs of calls on anything that performs them one by one, and the law that their answers obey.
+#![tactic(auto)]
+
 ghost use Rattle.std.specs.Prelude.{◌≡◌, List, [], ◌∷◌, IfOk};
 ghost use Rattle.runs.specs.Runs.{Law, History, Obeys};
 

@@ -1,4 +1,6 @@
 // Searches for the rule vectors of a polynomial.
+#![tactic(auto)]
+
 mod candidates;
 pub mod equations;
 mod pins;

@@ -1,4 +1,6 @@
 // What is promised of whole runs: of a search, of a rig, and of the rings that are made from what the search gives.
+#![tactic(auto)]
+
 pub mod promise;
 pub mod searches;
 

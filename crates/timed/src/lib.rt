@@ -1,5 +1,7 @@
 // The calls that bench/ times, as C sees them. What is refused answers 0, which is no polynomial's answer to a
 // measurement.
+#![tactic(auto)]
+
 ghost use Rattle.std.specs.Prelude.{◌≡◌, ℕ, ◌<◌, ◌≤◌, [], Some, None, fold, bit_xor};
 ghost use Rattle.gf2.specs.Algebra.{product, power_of_x, Degree, Leaves};
 ghost use Rattle.rings.specs.Cells.{ring_next};

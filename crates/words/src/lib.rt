@@ -1,4 +1,6 @@
 // The words of a line of bytes, and the decimal numbers that they write.
+#![tactic(auto)]
+
 pub mod numbers;
 pub mod reading;
 #[cfg(test)]

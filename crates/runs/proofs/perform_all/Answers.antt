@@ -8,7 +8,7 @@ loop-call-init g c =
     let cs = c.args.calls.now in
     let L = g.P.Performer.law p in
     let tied = g.P.Performer.tied p in
-    (omega arith, λ h d a x. x, λ t. subst (Sofar L tied cs 0) (sym c.in-ok-answers.ensures.items) (sofar_none L tied cs t))
+    (omega arith, λ h d a x. x, λ t. subst (Sofar L tied cs 0) (sym c.in_ok-answers.ensures.items) (sofar_none L tied cs t))
 
 pub loop-call-preserved : goal.loop-call-preserved
 loop-call-preserved g c =
@@ -20,7 +20,7 @@ loop-call-preserved g c =
     let tied = g.P.Performer.tied c.perform-answer.new.self in (
       omega arith,
       λ h d a x. l.invariant.1 h d a (c.perform-answer.ensures.same h d a x),
-      λ t. subst (Sofar L tied cs _) (sym c.in-ok-push.ensures.items)
+      λ t. subst (Sofar L tied cs _) (sym c.in_ok-push.ensures.items)
           (sofar_more L M was tied cs l.call-index _ c.call-item.result c.perform-answer.result c.loop-call-test.true c.call-item.is l.invariant.1
           c.perform-answer.ensures.right (l.invariant.2 t)),
     )

@@ -13,5 +13,5 @@ returns-in-Ok c =
     let opened = c.in-Ok.ensures.value in
     rw opened.0
     (λ n degree.
-    c.sum-of.ensures opened.1.given
+    c.sum_of.ensures opened.1.given
     ∙ ap (λ (l : List ℕ). fold bit_xor 0 l) (opened_all p w opened.1 ∙ ap (λ (k : ℕ). full_list k p) (degree_unique p w.cells n opened.1.degree degree)))

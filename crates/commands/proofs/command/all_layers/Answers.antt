@@ -8,8 +8,8 @@ spoiled : (ws : List (List ℕ)) → layers_over None ws ≡ None
 spoiled [] = refl
 spoiled (w ∷ ws) = refl
 
-pub returns-in-err-found : goal.returns-in-err-found
-returns-in-err-found c =
-    let after = left c.next-word.new.self in
-    c.from-residual.ensures ∙ sym (spoiled after) ∙ ap (λ o. layers_over o after) c.in-err-found.ensures
+pub returns-in_err-found : goal.returns-in_err-found
+returns-in_err-found c =
+    let after = left c.next_word.new.self in
+    c.from-residual.ensures ∙ sym (spoiled after) ∙ ap (λ o. layers_over o after) c.in_err-found.ensures
     ∙ ap (layers_over (Some c.loop-word.found)) (sym c.in-Some.ensures) ∙ c.loop-word.invariant

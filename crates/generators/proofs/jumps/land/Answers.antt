@@ -10,14 +10,14 @@ returns g c =
     let t = g.G.Generator in
     let law = g.met.G.Generator in
     let entry = c.args.g.now in
-    let walked = c.first-states-states.new.g in
+    let walked = c.first_states-states.new.g in
     let m = t.meaning entry in
     let p = c.args.modulus.polynomial in
     let n = c.degree-cells.result in
-    let same = c.first-states-states.ensures.same in
+    let same = c.first_states-states.ensures.same in
     let lands : (k : ℕ) → Leaves (power_of_x k) p c.args.residue → c.in-Ok.word ≡ iterate m.next k (t.state entry) =
     λ k l. jump_word m (law.lawful entry) (t.state entry) (law.below entry) k c.args.residue (subst (λ (z : ℕ). Leaves (power_of_x k) z c.args.residue) c.requires l) n
-    c.in-Ok.word c.first-states-states.result (subst (λ (z : ℕ). Degree z n) c.requires c.degree-cells.ensures.leading) c.first-states-states.ensures.value c.in-Ok.ensures.1 in
+    c.in-Ok.word c.first_states-states.result (subst (λ (z : ℕ). Degree z n) c.requires c.degree-cells.ensures.leading) c.first_states-states.ensures.value c.in-Ok.ensures.1 in
     let fits : (k : ℕ) → Leaves (power_of_x k) p c.args.residue → c.in-Ok.word < 2 ^ (t.meaning walked).cells =
     λ k l. rw (lands k l, same) (jump_below m (law.lawful entry) (t.state entry) (law.below entry) k c.args.residue (subst (λ (z : ℕ). Leaves (power_of_x k) z c.args.residue) c.requires l)) in
     record {

@@ -18,7 +18,7 @@ loop-i-preserved c =
     let low = subst (λ (d : ℕ). d < 2) (sym digit) (digit_below (c.args.a / 2 ^ (c.loop-i.i - 1))) in
     ap₂ bit_xor
     (product_shift c.args.a c.loop-i.i b c.loop-i.r (omega arith) (omega arith) c.loop-i-test.true c.loop-i.invariant)
-    (masked 64 c.from-digit.result b c.wrapping-neg.result low (omega arith) (omega arith) c.wrapping-neg.ensures ∙ ap (λ (d : ℕ). d * b) digit)
+    (masked 64 c.from-digit.result b c.wrapping_neg.result low (omega arith) (omega arith) c.wrapping_neg.ensures ∙ ap (λ (d : ℕ). d * b) digit)
     ∙ sym (product_digit c.args.a c.loop-i.i c.loop-i-test.true b)
 
 pub returns : goal.returns

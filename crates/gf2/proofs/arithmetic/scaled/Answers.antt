@@ -3,4 +3,4 @@ use Rattle.gf2.proofs.Words.{masked}
 use Rattle.gf2.proofs.arithmetic.scaled.Goals as goal
 
 pub returns : goal.returns
-returns c small = masked 32 c.args.digit c.args.b c.wrapping-neg.result small (omega arith) (omega arith) c.wrapping-neg.ensures
+returns c small = masked 32 c.args.digit c.args.b c.wrapping_neg.result small (omega arith) (omega arith) c.wrapping_neg.ensures

@@ -14,7 +14,7 @@ loop-vector-preserved c =
     let gives = c.in-Ok.ensures.1 in
     let front = (view c.args.search).given in
     let vs = vec_items c.loop-vector.vectors in (
-      ap (λ l. front ++ l) c.in-ok-push.ensures.items ∙ sym (append_assoc front vs (v ∷ [])) ∙ ap (λ l. l ++ (v ∷ [])) c.loop-vector.invariant.0
+      ap (λ l. front ++ l) c.in_ok-push.ensures.items ∙ sym (append_assoc front vs (v ∷ [])) ∙ ap (λ l. l ++ (v ∷ [])) c.loop-vector.invariant.0
           ∙ sym (given_one_more w v w' gives),
       fitting_kept w v w' gives ∙ c.loop-vector.invariant.1,
     )

@@ -11,18 +11,18 @@ pub loop-pin-init : goal.loop-pin-init
 loop-pin-init c =
     let p = c.args.polynomial in
     let qs = c.args.pins.now in
-    let opened = c.in-ok-search.ensures.value in
-    let fresh = opened_fresh p (view c.in-ok-search.search) (omega arith) c.in-ok-search.search.candidates.modulus.low opened.1 in (
+    let opened = c.in_ok-search.ensures.value in
+    let fresh = opened_fresh p (view c.in_ok-search.search) (omega arith) c.in_ok-search.search.candidates.modulus.low opened.1 in (
       ap (λ (w : View). pins_refusal w qs) fresh ∙ ap (λ o. else_asked o (pins_refusal (fresh_search p) qs)) (sym opened.0),
       ap (λ (w : View). with_pins w qs) fresh,
     )
 
-pub returns-in-err-pin : goal.returns-in-err-pin
-returns-in-err-pin c =
-    let p = err_from_is_err_and c.from-residual-in-err-pin.result c.from-residual-in-err-pin.ensures.1 in
+pub returns-in_err-pin : goal.returns-in_err-pin
+returns-in_err-pin c =
+    let p = err_from_is_err_and c.from-residual-in_err-pin.result c.from-residual-in_err-pin.ensures.1 in
     rw (p.1, p.2)
     (sym c.loop-pin.invariant.0
-    ∙ pin_refused c.args.pins.now c.loop-pin.pin-index _ _ c.loop-pin-test.true refl (view c.loop-pin.search) c.in-err-pin.field-0.0 c.in-err-pin.ensures.0)
+    ∙ pin_refused c.args.pins.now c.loop-pin.pin-index _ _ c.loop-pin-test.true refl (view c.loop-pin.search) c.in_err-pin.field-0.0 c.in_err-pin.ensures.0)
 
 pub loop-pin-preserved : goal.loop-pin-preserved
 loop-pin-preserved c =
@@ -30,7 +30,7 @@ loop-pin-preserved c =
     let i = c.loop-pin.pin-index in
     let w = view c.loop-pin.search in
     let w' = view c.pin.new.self in
-    let set = c.in-ok-pin.ensures in (
+    let set = c.in_ok-pin.ensures in (
       pin_asked qs i _ _ c.loop-pin-test.true refl w w' set.1 set.0 ∙ c.loop-pin.invariant.0,
       pin_set qs i _ _ c.loop-pin-test.true refl w w' set.1 ∙ c.loop-pin.invariant.1,
     )

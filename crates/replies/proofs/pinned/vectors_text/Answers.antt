@@ -5,8 +5,8 @@ use Rattle.replies.proofs.Searched.{all_fitting}
 use Rattle.replies.proofs.Texts.{made_as}
 use Rattle.replies.proofs.pinned.vectors_text.Goals as goal
 
-pub returns-in-ok-vectors : goal.returns-in-ok-vectors
-returns-in-ok-vectors c =
+pub returns-in_ok-vectors : goal.returns-in_ok-vectors
+returns-in_ok-vectors c =
     let pinned = c.in-Ok.ensures in
-    let found = all_fitting c.args.polynomial c.args.pins.now (view c.in-Ok.search) (vec_items c.in-ok-vectors.vectors) pinned.1 c.in-ok-vectors.ensures in
-    made_as c.joined.result string_bytes (ap₂ (λ q (l : List ℕ). said q (joined (codes " ") (map decimal l))) (sym pinned.0) (c.as-slice.ensures.value ∙ found)) c.joined.ensures
+    let found = all_fitting c.args.polynomial c.args.pins.now (view c.in-Ok.search) (vec_items c.in_ok-vectors.vectors) pinned.1 c.in_ok-vectors.ensures in
+    made_as c.joined.result string_bytes (ap₂ (λ q (l : List ℕ). said q (joined (codes " ") (map decimal l))) (sym pinned.0) (c.as_slice.ensures.value ∙ found)) c.joined.ensures

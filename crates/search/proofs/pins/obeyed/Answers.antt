@@ -3,7 +3,7 @@ use lib.Bits.{and_mask}
 use Rattle.search.specs.Lists.{fits}
 use Rattle.search.proofs.Wanted.{pin_none, pin_some, pins_end}
 use Rattle.search.proofs.pins.obeyed.Goals as goal
-use Rattle.search.proofs.pins.obeyed.Goals.{in-Some+else-left-value, in-default}
+use Rattle.search.proofs.pins.obeyed.Goals.{in-Some+else-left-value, in_default}
 
 pub loop-pin-init : goal.loop-pin-init
 loop-pin-init c = refl
@@ -26,7 +26,7 @@ loop-pin-preserved c =
       | in-Some+else-left-value w ↦
           let same = eq-eqb (l.left % 2) w.in-Some.value (sym (and_mask l.left 1) ∙ w.if-left-value.false) in
           sym (pin_some pins l.pin-index l.left within w.in-Some.value w.in-Some.is ∙ ap (λ (b : Bool). b && fits (drop (l.pin-index + 1) pins) (l.left / 2)) same) ∙ l.invariant
-      | in-default w ↦ sym (pin_none pins l.pin-index l.left within w.in-default.is) ∙ l.invariant
+      | in_default w ↦ sym (pin_none pins l.pin-index l.left within w.in_default.is) ∙ l.invariant
     ]
 
 pub returns : goal.returns

@@ -4,10 +4,10 @@ use Rattle.service.specs.declared.searches.Answer.TheVariants.{Done}
 use Rattle.service.specs.Promises.{vectors, Within, Made}
 use Rattle.service.proofs.Given.{turn_vector, turn_none, vector_accepted}
 use Rattle.service.proofs.promise.rings_of.Goals as goal
-use Rattle.service.proofs.promise.rings_of.Goals.{in-Vector+in-ok-push, in-default}
+use Rattle.service.proofs.promise.rings_of.Goals.{in-Vector+in_ok-push, in_default}
 
-pub ring-of-requires : goal.ring-of-requires
-ring-of-requires c =
+pub ring_of-requires : goal.ring_of-requires
+ring_of-requires c =
     let read = All-get_or (Within c.args.cells) c.args.answers.now c.loop-answer.answer-index Done c.loop-answer-test.true c.requires.given in
     vector_accepted c.args.cells c.in-Vector.vector c.requires.some c.requires.few (subst (Within c.args.cells) c.in-Vector.is read)
 
@@ -19,11 +19,11 @@ loop-answer-preserved c =
     let later = vec_items c.match-answer.rings in (
       omega arith,
       elim c.match-answer.branch [
-        | in-Vector+in-ok-push w ↦
-            turn_vector c.args.cells answers l.answer-index Done c.loop-answer-test.true made later l.invariant.1 w.in-Vector.vector w.ring-of.result w.in-Vector.is
-            w.ring-of.ensures.0 w.ring-of.ensures.1 (ap vec_items w.rings-is ∙ w.in-ok-push.ensures.items)
-        | in-default w ↦
-            turn_none c.args.cells answers l.answer-index Done c.loop-answer-test.true made later l.invariant.1 w.in-default.not-Vector (ap vec_items w.rings-is)
+        | in-Vector+in_ok-push w ↦
+            turn_vector c.args.cells answers l.answer-index Done c.loop-answer-test.true made later l.invariant.1 w.in-Vector.vector w.ring_of.result w.in-Vector.is
+            w.ring_of.ensures.0 w.ring_of.ensures.1 (ap vec_items w.rings-is ∙ w.in_ok-push.ensures.items)
+        | in_default w ↦
+            turn_none c.args.cells answers l.answer-index Done c.loop-answer-test.true made later l.invariant.1 w.in_default.not-Vector (ap vec_items w.rings-is)
       ],
     )
 

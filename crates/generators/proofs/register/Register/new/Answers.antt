@@ -3,10 +3,10 @@ use Rattle.generators.specs.Registers.{taps}
 use Rattle.generators.specs.Taps.{taps_word}
 use Rattle.generators.proofs.register.Register.new.Goals as goal
 
-pub invariant-of-result : goal.invariant-of-result
-invariant-of-result c =
+pub invariant_of-result : goal.invariant_of-result
+invariant_of-result c =
     let m = c.in-Some.modulus in (
-      ap₂ (λ (x y : ℕ). x / 2 ^ (32 - y)) c.reverse-bits.ensures c.degree.ensures.value
+      ap₂ (λ (x y : ℕ). x / 2 ^ (32 - y)) c.reverse_bits.ensures c.degree.ensures.value
           ∙ taps_word m.degree c.args.polynomial (omega arith) ∙ ap (λ (p : ℕ). taps p m.degree) (sym c.in-Some.ensures.1),
       (pow_pos m.degree, tt),
     )

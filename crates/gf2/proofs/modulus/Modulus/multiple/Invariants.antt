@@ -1,5 +1,5 @@
 use Rattle.std.proofs.Common.{ℕ, ◌/◌, ◌^◌}
-use Rattle.gf2.specs.Algebra.{product, power_of_x, Leaves}
+use Rattle.gf2.specs.Algebra.{product, Leaves}
 use Rattle.gf2.proofs.modulus.Modulus.multiple.Given as goal
 
 -- r is what the digits of a from i on, times c, leave

@@ -18,7 +18,7 @@ loop-i-preserved c =
 pub loop-i-preserved-then-e-i-eq1 : goal.loop-i-preserved-then-e-i-eq1
 loop-i-preserved-then-e-i-eq1 c =
     rw (power_set c.args.e c.loop-i.i c.loop-i-test.true c.if-e-i-eq1.true)
-    (c.times-x-r.ensures _ (leaves_square _ _ c.loop-i.r _ c.loop-i.invariant c.multiple-r.ensures))
+    (c.times_x-r.ensures _ (leaves_square _ _ c.loop-i.r _ c.loop-i.invariant c.multiple-r.ensures))
 
 pub returns : goal.returns
 returns c = rw (from_lowest c.args.e c.loop-i.i c.loop-i-test.false) at c.loop-i.invariant

@@ -1,5 +1,5 @@
-use Rattle.std.proofs.Common.{ℕ, ◌/◌, ◌^◌}
-use Rattle.gf2.specs.Algebra.{product, power_of_x, Leaves}
+use Rattle.std.proofs.Common.{◌/◌, ◌^◌}
+use Rattle.gf2.specs.Algebra.{power_of_x, Leaves}
 use Rattle.gf2.proofs.modulus.Modulus.power_of_x.Given as goal
 
 -- r is what x to the digits of e from i on leaves

@@ -7,7 +7,7 @@ pub returns : goal.returns
 returns g c =
     let m = g.G.Generator.meaning c.args.self.now.generator in
     let word = c.args.word in
-    let after = c.in-ok-load.ensures.after in
+    let after = c.in_ok-load.ensures.after in
     let is = ap (view (Some word) 0) after.1 in
     record {
       same = c.load.ensures.same;

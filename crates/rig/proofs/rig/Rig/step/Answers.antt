@@ -9,5 +9,5 @@ returns g c =
     let m = g.G.Generator.meaning rig.generator in
     let s = g.G.Generator.state rig.generator in
     let v = view rig.seed rig.clock s in
-    let is = ap₂ (view rig.seed) c.in-ok-clock.ensures.1 (c.step.ensures.after ∙ sym (iterate_one m.next s)) in
-    record { same = c.step.ensures.same; after = (c.in-ok-clock.ensures.0, is); stands = λ h. subst (Stands m) (sym is) (stands_moved m v 1 h) }
+    let is = ap₂ (view rig.seed) c.in_ok-clock.ensures.1 (c.step.ensures.after ∙ sym (iterate_one m.next s)) in
+    record { same = c.step.ensures.same; after = (c.in_ok-clock.ensures.0, is); stands = λ h. subst (Stands m) (sym is) (stands_moved m v 1 h) }

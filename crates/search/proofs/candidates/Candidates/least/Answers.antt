@@ -2,7 +2,7 @@ use Rattle.std.proofs.Common.{◌≡◌, ℕ, ◌+◌, Option, sym, subst, arith
 use Rattle.search.specs.Lists.{Wanted}
 use Rattle.search.proofs.Wanted.{Best, best_none, best_same, best_lower, best_all}
 use Rattle.search.proofs.candidates.Candidates.least.Goals as goal
-use Rattle.search.proofs.candidates.Candidates.least.Goals.{in-Some, in-default}
+use Rattle.search.proofs.candidates.Candidates.least.Goals.{in-Some, in_default}
 
 pub loop-t-init : goal.loop-t-init
 loop-t-init c = best_none _ _ _
@@ -18,8 +18,8 @@ loop-t-preserved c =
       | in-Some w ↦
           subst Next (sym w.best-is)
           (best_lower F m.degree span l.t l.best l.invariant w.in-Some.vector w.lower.result w.in-Some.ensures w.lower.ensures)
-      | in-default w ↦
-          subst Next (sym w.best-is) (best_same F m.degree span l.t l.best l.invariant w.in-default.ensures)
+      | in_default w ↦
+          subst Next (sym w.best-is) (best_same F m.degree span l.t l.best l.invariant w.in_default.ensures)
     ]
 
 pub returns : goal.returns

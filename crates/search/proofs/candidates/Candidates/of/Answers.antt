@@ -2,8 +2,8 @@ use Rattle.std.proofs.Common.{ℕ, subst}
 use Rattle.search.specs.Spans.{Complete}
 use Rattle.search.proofs.candidates.Candidates.of.Goals as goal
 
-pub invariant-of-result : goal.invariant-of-result
-invariant-of-result c =
+pub invariant_of-result : goal.invariant_of-result
+invariant_of-result c =
     let m = c.args.modulus in
     let span = c.solutions.result in (
       subst (λ (n : ℕ). Complete m.polynomial n span) c.degree.ensures.value

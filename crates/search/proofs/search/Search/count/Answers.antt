@@ -24,4 +24,4 @@ returns c =
     let s = c.args.self.now in
     let m = s.candidates.modulus in
     let l = c.loop-vector in
-    l.invariant.2 ∙ ap length (none_left m.degree m.polynomial s.pins l.from l.invariant.0 c.in-default.ensures)
+    l.invariant.2 ∙ ap length (none_left m.degree m.polynomial s.pins l.from l.invariant.0 c.in_default.ensures)

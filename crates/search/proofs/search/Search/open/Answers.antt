@@ -6,8 +6,8 @@ use Rattle.search.proofs.Identity.{identity}
 use Rattle.search.proofs.Runs.{below_none}
 use Rattle.search.proofs.search.Search.open.Goals as goal
 
-pub returns-in-default : goal.returns-in-default
-returns-in-default c = record { value = rw (lt-leb 2 c.args.polynomial c.in-default.ensures); identity = identity }
+pub returns-in_default : goal.returns-in_default
+returns-in_default c = record { value = rw (lt-leb 2 c.args.polynomial c.in_default.ensures); identity = identity }
 
 pub returns : goal.returns
 returns c =
