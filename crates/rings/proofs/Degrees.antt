@@ -1,7 +1,7 @@
 -- The polynomial of n cells has degree n, and one more cell of the recurrence fits its word.
-use Rattle.std.proofs.Common.{◌≡◌, ℕ, zero, suc, ◌+◌, ◌*◌, ◌/◌, ◌%◌, ◌^◌, ◌<◌, ◌≤◌, sym, refl, ap, ◌∙◌, subst, ap₂, lt_of_lt_of_le, mod-lt, zero-lt-suc, one-mul, zero-mul, add-one, one-add, arith, pow_mono}
+use Rattle.std.proofs.Common.{◌≡◌, ℕ, zero, suc, ◌+◌, ◌*◌, ◌/◌, ◌%◌, ◌^◌, ◌<◌, sym, refl, ap, ◌∙◌, subst, ap₂, lt_of_lt_of_le, mod-lt, zero-lt-suc, one-mul, zero-mul, add-one, one-add, arith, pow_mono}
 use native.Mathlib.Nat.{div-eq_of_lt}
-use lib.Bits.{bit_and, bit_xor, and_mask, xor_shr, xor_assoc, xor_zero_r}
+use lib.Bits.{bit_and, bit_xor, and_mask, xor_shr}
 use Rattle.gf2.specs.Algebra.{product, Degree}
 use Rattle.gf2.proofs.Ring.{mul_sum_l, mul_x_l, mul_one_l}
 use Rattle.gf2.proofs.Division.{degree_product, degree_below, mul_digit}

@@ -1,5 +1,5 @@
 -- Determinants of any size: only entries inside the square count, and a last column of zeros gives 0.
-use Rattle.std.proofs.Common.{◌≡◌, ℕ, zero, suc, ◌+◌, ◌-◌, ◌<◌, ◌≤◌, sym, refl, ap, ◌∙◌, ap₂, ⊎_elim, arith}
+use Rattle.std.proofs.Common.{◌≡◌, ℕ, zero, suc, ◌<◌, ◌≤◌, refl, ap, ◌∙◌, ap₂, ⊎_elim, arith}
 use lib.Bits.{bit_xor}
 use Rattle.std.proofs.str.Laws.{order}
 use Rattle.gf2.specs.Algebra.{product}

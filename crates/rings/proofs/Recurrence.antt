@@ -1,5 +1,5 @@
 -- The recurrence gives the determinant of xI + A.
-use Rattle.std.proofs.Common.{◌≡◌, ℕ, zero, suc, ◌+◌, ◌-◌, ◌<◌, ◌≤◌, sym, refl, ap, ◌∙◌, ap₂, arith}
+use Rattle.std.proofs.Common.{◌≡◌, ℕ, zero, suc, ◌-◌, ◌<◌, ◌≤◌, sym, refl, ap, ◌∙◌, ap₂, arith}
 use lib.Bits.{bit_xor, xor_zero_r, xor_comm}
 use Rattle.gf2.specs.Algebra.{product}
 use Rattle.gf2.proofs.Ring.{mul_zero_l, mul_one_l, mul_one_r}
