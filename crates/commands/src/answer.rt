@@ -81,7 +81,7 @@ fn register_pattern(polynomial: u32, seed: u32, clock: u64, layers: Layers) -> R
 
 // What a generator shows so many clocks after a seed.
 fn pattern_of<G: Generator + Drop>(generator: G, seed: u32, clock: u64) -> Result<u32, Refusal>
-    ensures { Answers result (start_refusal (meaning generator).cells seed clock) (λ p. p ≡ shown_at (meaning generator) seed clock) }
+    ensures { Answers result (start_refusal (G.meaning generator).cells seed clock) (λ p. p ≡ shown_at (G.meaning generator) seed clock) }
 {
     let mut rig = Rig::new(generator);
     rig.seed(seed)?;

@@ -5,7 +5,7 @@ pub mod Piles
 pub mod Layers
 pub mod Orbits
 pub mod Heights
-pub mod RegistersLemmas
+pub mod RegisterLaws
 pub mod Cells
 pub mod Taps
 pub mod Rings

@@ -2,7 +2,6 @@
 ghost use Rattle.std.specs.Prelude.{◌≡◌};
 ghost use Rattle.generators.specs.Generators.{doubled};
 ghost use Rattle.generators.specs.Layers.{doubled_lawful};
-ghost use Rattle.std.proofs.Common.{rules};
 
 use crate::Generator;
 use rings::Refusal;
@@ -28,7 +27,7 @@ impl<G: Generator> Generator for Doubler<G> {
 
     ghost lawful = { λ d. doubled_lawful (G.Generator.meaning d.below) (G.Generator.lawful d.below) };
 
-    ghost below = { Prim.search rules };
+    ghost below = { λ d. G.Generator.below d.below };
 
     fn polynomial(&self) -> u32 {
         self.below.polynomial()

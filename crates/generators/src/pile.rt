@@ -2,7 +2,6 @@
 ghost use Rattle.std.specs.Prelude.{◌≡◌};
 ghost use Rattle.generators.specs.Piles.{piled, tapped_word};
 ghost use Rattle.generators.specs.Heights.{piled_lawful};
-ghost use Rattle.std.proofs.Common.{rules};
 
 use crate::{Generator, leap};
 use rings::Refusal;
@@ -34,7 +33,7 @@ impl<G: Generator> Generator for Pile<G> {
 
     ghost lawful = { λ p. piled_lawful p.doublers p.taps (G.Generator.meaning p.below) (G.Generator.lawful p.below) };
 
-    ghost below = { Prim.search rules };
+    ghost below = { λ p. G.Generator.below p.below };
 
     fn polynomial(&self) -> u32 {
         self.below.polynomial()

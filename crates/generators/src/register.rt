@@ -3,8 +3,7 @@ ghost use Rattle.std.specs.Prelude.{◌≡◌, ◌^◌, ◌<◌};
 ghost use Rattle.rings.specs.Questions.{Answers, polynomial_refusal};
 ghost use Rattle.generators.specs.Generators.{plain};
 ghost use Rattle.generators.specs.Registers.{register_next, taps as taps_of};
-ghost use Rattle.generators.specs.RegistersLemmas.{register_lawful};
-ghost use Rattle.std.proofs.Common.{rules, arith};
+ghost use Rattle.generators.specs.RegisterLaws.{register_lawful};
 
 use crate::Generator;
 use gf2::Modulus;
@@ -47,7 +46,7 @@ impl Generator for Register {
         let m = g.modulus in
         register_lawful m.polynomial m.degree m.leading m.low m.high };
 
-    ghost below = { first_of (Prim.search rules, Prim.grind (arith, Self.row.coded.inj)) };
+    ghost below = { λ r. r.below };
 
     fn polynomial(&self) -> u32 {
         self.modulus.polynomial()

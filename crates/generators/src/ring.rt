@@ -2,7 +2,6 @@
 ghost use Rattle.rings.specs.Cells.{ring_next};
 ghost use Rattle.generators.specs.Generators.{plain};
 ghost use Rattle.generators.specs.Rings.{ring_lawful};
-ghost use Rattle.std.proofs.Common.{rules};
 
 use crate::Generator;
 use rings::{Refusal, Ring};
@@ -14,7 +13,7 @@ impl Generator for Ring {
 
     ghost lawful = { λ g. ring_lawful g.vector.cells g.vector.rules g.polynomial g.own g.vector.some g.vector.few };
 
-    ghost below = { Prim.search rules };
+    ghost below = { λ r. r.below };
 
     fn polynomial(&self) -> u32 {
         Ring::polynomial(self)

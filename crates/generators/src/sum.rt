@@ -56,7 +56,7 @@ impl Summand for u32 {
 
 // The sum of the items at the places, from 0, whose bit is 1 in the word.
 pub fn chosen_sum<T: Summand>(items: &[T], word: u32) -> Result<T, Refusal>
-    ensures { Answers result (items_refusal (length items.now)) (λ s. s ≡ chosen zero plus items.now word) }
+    ensures { Answers result (items_refusal (length items.now)) (λ s. s ≡ chosen T.zero T.plus items.now word) }
 {
     if items.len() > MAX_ITEMS {
         return Err(Refusal::TooManyItems);

@@ -2,7 +2,6 @@
 ghost use Rattle.std.specs.Prelude.{◌≡◌};
 ghost use Rattle.generators.specs.Generators.{tapped};
 ghost use Rattle.generators.specs.Layers.{tapped_lawful};
-ghost use Rattle.std.proofs.Common.{rules};
 
 use crate::Generator;
 use rings::Refusal;
@@ -28,7 +27,7 @@ impl<G: Generator> Generator for Tap<G> {
 
     ghost lawful = { λ t. tapped_lawful (G.Generator.meaning t.below) (G.Generator.lawful t.below) };
 
-    ghost below = { Prim.search rules };
+    ghost below = { λ t. G.Generator.below t.below };
 
     fn polynomial(&self) -> u32 {
         self.below.polynomial()

@@ -3,7 +3,7 @@ use Rattle.std.proofs.Common.{◌≡◌, ℕ, zero, suc, ◌+◌, ◌*◌, ◌/�
 use native.Mathlib.Nat.{div-eq_of_lt}
 use lib.Arith.{bin_ind, lt-one}
 use lib.Bits.{bit_xor, xor_shr, xor_self, xor_comm, xor_assoc, xor_zero_r, xor_lt}
-use Rattle.std.proofs.str.Laws.{order}
+use Rattle.gf2.proofs.Orders.{order}
 use Rattle.gf2.specs.Algebra.{product, Degree, Leaves}
 use Rattle.gf2.proofs.Sums.{by_digits, xor_cancel, xor_swap, xor_double}
 use Rattle.gf2.proofs.Ring.{mul_zero_l, mul_one_l, mul_one_r, mul_sum_l, mul_sum_r, mul_x_l, mul_comm, mul_assoc}

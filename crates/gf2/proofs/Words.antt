@@ -3,7 +3,7 @@ use Rattle.std.proofs.Common.{◌≡◌, ℕ, zero, suc, ◌+◌, ◌-◌, ◌*�
 use native.Mathlib.Nat.{div-eq_of_lt-le, div-eq_of_lt}
 use lib.Pow.{shr_le}
 use lib.Bits.{bit_and, bit_xor, and_mask, and_zero_r, and_block, xor_zero_r, xor_shifted}
-use Rattle.std.proofs.str.Laws.{order}
+use Rattle.gf2.proofs.Orders.{order}
 use lib.Count.{count_leading_zeros, leading_top, leading_length}
 use Rattle.gf2.specs.Algebra.{product, derivative, power_of_x, times_x, Degree, Leaves}
 use Rattle.gf2.proofs.Sums.{by_digits, xor_double, sums}

@@ -39,7 +39,7 @@ pub(crate) fn register_pattern(
 
 // What a generator shows so many clocks after a seed.
 fn pattern_of<G: Generator + Drop>(generator: G, seed: u32, clock: u64) -> Result<u32, Refusal>
-    ensures { Answers result (start_refusal (meaning generator).cells seed clock) (λ p. p ≡ shown_at (meaning generator) seed clock) }
+    ensures { Answers result (start_refusal (G.meaning generator).cells seed clock) (λ p. p ≡ shown_at (G.meaning generator) seed clock) }
 {
     let mut rig = Rig::new(generator);
     rig.seed(seed)?;

@@ -32,9 +32,9 @@ impl<G: Generator> Rig<G> {
 
     // Loads a word and sets the clock to 0.
     pub fn seed(&mut self, word: u32) -> Result<(), Refusal>
-        ensures same { meaning self.new.generator ≡ meaning self.old.generator }
-        ensures after { Changes result (seed_refusal (meaning self.old.generator).cells word) (view self.old.seed self.old.clock (state self.old.generator)) (loaded word) (view self.new.seed self.new.clock (state self.new.generator)) }
-        ensures stands { Stands (meaning self.old.generator) (view self.old.seed self.old.clock (state self.old.generator)) → Stands (meaning self.old.generator) (view self.new.seed self.new.clock (state self.new.generator)) }
+        ensures same { G.meaning self.new.generator ≡ G.meaning self.old.generator }
+        ensures after { Changes result (seed_refusal (G.meaning self.old.generator).cells word) (view self.old.seed self.old.clock (G.state self.old.generator)) (loaded word) (view self.new.seed self.new.clock (G.state self.new.generator)) }
+        ensures stands { Stands (G.meaning self.old.generator) (view self.old.seed self.old.clock (G.state self.old.generator)) → Stands (G.meaning self.old.generator) (view self.new.seed self.new.clock (G.state self.new.generator)) }
     {
         if word == 0 {
             return Err(Refusal::SeedZero);
@@ -47,9 +47,9 @@ impl<G: Generator> Rig<G> {
 
     // One clock on.
     pub fn step(&mut self) -> Result<(), Refusal>
-        ensures same { meaning self.new.generator ≡ meaning self.old.generator }
-        ensures after { Changes result (move_refusal self.old.seed self.old.clock 1) (view self.old.seed self.old.clock (state self.old.generator)) (moved (meaning self.old.generator) (view self.old.seed self.old.clock (state self.old.generator)) 1) (view self.new.seed self.new.clock (state self.new.generator)) }
-        ensures stands { Stands (meaning self.old.generator) (view self.old.seed self.old.clock (state self.old.generator)) → Stands (meaning self.old.generator) (view self.new.seed self.new.clock (state self.new.generator)) }
+        ensures same { G.meaning self.new.generator ≡ G.meaning self.old.generator }
+        ensures after { Changes result (move_refusal self.old.seed self.old.clock 1) (view self.old.seed self.old.clock (G.state self.old.generator)) (moved (G.meaning self.old.generator) (view self.old.seed self.old.clock (G.state self.old.generator)) 1) (view self.new.seed self.new.clock (G.state self.new.generator)) }
+        ensures stands { Stands (G.meaning self.old.generator) (view self.old.seed self.old.clock (G.state self.old.generator)) → Stands (G.meaning self.old.generator) (view self.new.seed self.new.clock (G.state self.new.generator)) }
     {
         let clock = self.clock_after(1)?;
         self.generator.step();
@@ -59,9 +59,9 @@ impl<G: Generator> Rig<G> {
 
     // As many clocks on as single steps would be, and no slower for being many.
     pub fn jump(&mut self, length: u64) -> Result<(), Refusal>
-        ensures same { meaning self.new.generator ≡ meaning self.old.generator }
-        ensures after { Changes result (move_refusal self.old.seed self.old.clock length) (view self.old.seed self.old.clock (state self.old.generator)) (moved (meaning self.old.generator) (view self.old.seed self.old.clock (state self.old.generator)) length) (view self.new.seed self.new.clock (state self.new.generator)) }
-        ensures stands { Stands (meaning self.old.generator) (view self.old.seed self.old.clock (state self.old.generator)) → Stands (meaning self.old.generator) (view self.new.seed self.new.clock (state self.new.generator)) }
+        ensures same { G.meaning self.new.generator ≡ G.meaning self.old.generator }
+        ensures after { Changes result (move_refusal self.old.seed self.old.clock length) (view self.old.seed self.old.clock (G.state self.old.generator)) (moved (G.meaning self.old.generator) (view self.old.seed self.old.clock (G.state self.old.generator)) length) (view self.new.seed self.new.clock (G.state self.new.generator)) }
+        ensures stands { Stands (G.meaning self.old.generator) (view self.old.seed self.old.clock (G.state self.old.generator)) → Stands (G.meaning self.old.generator) (view self.new.seed self.new.clock (G.state self.new.generator)) }
     {
         let clock = self.clock_after(length)?;
         jump(&mut self.generator, length);
@@ -71,7 +71,7 @@ impl<G: Generator> Rig<G> {
 
     // The pattern that the generator shows at this clock.
     pub fn show(&self) -> Result<u32, Refusal>
-        ensures { Answers result (seeded self.now.seed) (λ p. p ≡ (meaning self.now.generator).shown (state self.now.generator)) }
+        ensures { Answers result (seeded self.now.seed) (λ p. p ≡ (G.meaning self.now.generator).shown (G.state self.now.generator)) }
     {
         self.asked()?;
         Ok(self.generator.shown())

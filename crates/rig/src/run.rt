@@ -57,7 +57,7 @@ pub fn run<G: Generator + Drop>(
     generator: G,
     calls: &[Call],
 ) -> Result<Vec<Answer>, AllocError>
-    ensures { IfOk result (λ answers. Obeys (RigLaw (meaning generator)) calls.now answers.items) }
+    ensures { IfOk result (λ answers. Obeys (RigLaw (G.meaning generator)) calls.now answers.items) }
 {
     let mut rig = Rig::new(generator);
     perform_all(heap, &mut rig, calls)

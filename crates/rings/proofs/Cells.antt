@@ -4,7 +4,7 @@ use native.Mathlib.Nat.{mod-one, div-eq_of_lt}
 use lib.Arith.{digits_lt}
 use lib.Pow.{field, mod-mod-pow, mod-pow-add, high, low}
 use lib.Bits.{bit_xor, xor_shr, xor_mod}
-use Rattle.std.proofs.str.Laws.{order}
+use Rattle.gf2.proofs.Orders.{order}
 use Rattle.rings.specs.Cells.{cell, word}
 
 -- ---- one cell

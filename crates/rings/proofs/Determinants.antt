@@ -1,7 +1,7 @@
 -- Determinants of any size: only entries inside the square count, and a last column of zeros gives 0.
 use Rattle.std.proofs.Common.{◌≡◌, ℕ, zero, suc, ◌<◌, ◌≤◌, refl, ap, ◌∙◌, ap₂, ⊎_elim, arith}
 use lib.Bits.{bit_xor}
-use Rattle.std.proofs.str.Laws.{order}
+use Rattle.gf2.proofs.Orders.{order}
 use Rattle.gf2.specs.Algebra.{product}
 use Rattle.gf2.proofs.Ring.{mul_zero_l, mul_comm}
 use Rattle.rings.specs.Determinant.{Matrix, sum, skip, minor, determinant}

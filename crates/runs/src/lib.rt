@@ -25,7 +25,7 @@ pub fn perform_all<C: Copy, A: Drop, P: Performer<C, A>>(
     performer: &mut P,
     calls: &[C],
 ) -> Result<Vec<A>, AllocError>
-    ensures { IfOk result (λ answers. tied performer.old [] → Obeys (law performer.old) calls.now answers.items) }
+    ensures { IfOk result (λ answers. P.tied performer.old [] → Obeys (P.law performer.old) calls.now answers.items) }
 {
     let mut answers = Vec::with_capacity(heap, calls.len())?;
     for call in calls {

@@ -8,7 +8,7 @@ use lib.Seq.{set-get_or}
 use Rattle.std.proofs.lemmas.Nat.{one_shl}
 use Rattle.std.proofs.lemmas.List.{get_or_default, length-map}
 use Rattle.std.proofs.lemmas.List.Edits.{map_over_more}
-use Rattle.std.proofs.str.Laws.{order}
+use Rattle.gf2.proofs.Orders.{order}
 use Rattle.gf2.specs.Algebra.{Degree}
 use Rattle.generators.specs.Chosen.{taken, chosen}
 use Rattle.search.specs.declared.equations.Equation.{Equation}

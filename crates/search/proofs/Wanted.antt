@@ -1,7 +1,7 @@
 -- The walk over the candidates: the best so far, and the pins of a vector one by one.
 use Rattle.std.proofs.Common.{◌≡◌, ℕ, ◌+◌, ◌/◌, ◌%◌, ◌^◌, ◌<◌, ◌≤◌, min, true, ◌&&◌, eqb, List, ◌∷◌, length, get_or, drop, Some, None, Option, sym, ap, ◌∙◌, subst, ⊎_elim, arith}
 use Rattle.std.proofs.lemmas.List.{drop_more, drop_all}
-use Rattle.std.proofs.str.Laws.{order}
+use Rattle.gf2.proofs.Orders.{order}
 use Rattle.rings.specs.Vectors.{recurrence, recurrence_from}
 use Rattle.rings.proofs.Recurrence.{polynomial_recurrence}
 use Rattle.search.specs.declared.span.Span.{Span}

@@ -4,4 +4,4 @@ pub mod Spans
 pub mod Undoing
 pub mod Lists
 pub mod Views
-pub mod EquationSummandLemmas
+pub mod EquationLaws

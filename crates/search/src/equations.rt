@@ -4,7 +4,7 @@ ghost use Rattle.std.proofs.Math.Path.{ap₂};
 ghost use Rattle.search.specs.Systems.{value as comes_to, plus as sum_of};
 ghost use Rattle.std.proofs.lemmas.Nat.{xor_comm};
 ghost use Rattle.std.specs.Int.Bits.{xor_assoc, xor_self};
-ghost use Rattle.search.specs.EquationSummandLemmas.{make};
+ghost use Rattle.search.specs.EquationLaws.{made_of};
 ghost use Rattle.std.proofs.Common.{rules};
 
 use generators::Summand;
@@ -33,11 +33,11 @@ impl Summand for Equation {
 
     ghost unit = { Prim.search rules };
 
-    ghost commutes = { unfold make in λ x y. ap₂ make (xor_comm x.word y.word) (xor_comm x.bit y.bit) };
+    ghost commutes = { λ x y. ap₂ made_of (xor_comm x.word y.word) (xor_comm x.bit y.bit) };
 
-    ghost associates = { unfold make in λ x y z. ap₂ make (xor_assoc x.word y.word z.word) (xor_assoc x.bit y.bit z.bit) };
+    ghost associates = { λ x y z. ap₂ made_of (xor_assoc x.word y.word z.word) (xor_assoc x.bit y.bit z.bit) };
 
-    ghost cancels = { unfold make in λ x. ap₂ make (xor_self x.word) (xor_self x.bit) };
+    ghost cancels = { λ x. ap₂ made_of (xor_self x.word) (xor_self x.bit) };
 
     fn zero() -> Equation {
         Equation { word: 0, bit: 0 }

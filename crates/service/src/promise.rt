@@ -38,7 +38,7 @@ pub fn perform<G: Generator + Drop>(
     generator: G,
     rig_calls: &[rig::Call],
 ) -> Result<Outcome, Failure>
-    ensures kept { Keeps polynomial calls.now (meaning generator) rig_calls.now result }
+    ensures kept { Keeps polynomial calls.now (G.meaning generator) rig_calls.now result }
     ensures examples { Examples }
 {
     let mut opened = match Search::open(polynomial) {

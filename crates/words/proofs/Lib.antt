@@ -1,5 +1,4 @@
 pub mod Cuts
 pub mod Values
 pub mod Readings
-pub mod Names
 pub mod Signs

@@ -38,14 +38,14 @@ impl<'a> Words<'a> {
 
     // What the next word writes; none where it writes no such thing, or there is no word.
     pub fn value<T: Reading>(&mut self) -> Option<T>
-        ensures { MatchOption result (first_by read (left self.old) ≡ None) (λ x. first_by read (left self.old) ≡ Some (x, left self.new)) }
+        ensures { MatchOption result (first_by T.read (left self.old) ≡ None) (λ x. first_by T.read (left self.old) ≡ Some (x, left self.new)) }
     {
         T::read(self.next_word()?)
     }
 
     // What all words that are left write; none where one of them writes no such thing.
     pub fn values<T: Reading + Drop>(mut self, heap: Global) -> Result<Option<Vec<T>>, AllocError>
-        ensures { IfOk result (λ o. option_map vec_items o ≡ all_by read (left self.entry)) }
+        ensures { IfOk result (λ o. option_map vec_items o ≡ all_by T.read (left self.entry)) }
     {
         let mut values = Vec::new(heap);
         while let Some(word) = self.next_word() {

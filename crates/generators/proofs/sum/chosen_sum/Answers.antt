@@ -31,6 +31,6 @@ returns g c =
     let t = g.T.Summand in
     let law = g.met.T.Summand in
     let l = c.loop-item in (
-      rw (le-leb _ 32 c.if-items-gt-MAX-ITEMS.false),
+      rw (le-leb _ 32 c.if-items-gt-MAX_ITEMS.false),
       sym (chosen_none t.zero t.plus law.unit law.commutes law.associates c.args.items.now l.item-index l.sum l.left c.loop-item-test.false) ∙ l.invariant,
     )

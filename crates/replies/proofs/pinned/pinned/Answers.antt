@@ -19,7 +19,7 @@ loop-pin-init c =
 
 pub returns-in_err-pin : goal.returns-in_err-pin
 returns-in_err-pin c =
-    let p = err_from_is_err_and c.from-residual-in_err-pin.result c.from-residual-in_err-pin.ensures.1 in
+    let p = err_from_is_err_and c.from_residual-in_err-pin.result c.from_residual-in_err-pin.ensures.1 in
     rw (p.1, p.2)
     (sym c.loop-pin.invariant.0
     ∙ pin_refused c.args.pins.now c.loop-pin.pin-index _ _ c.loop-pin-test.true refl (view c.loop-pin.search) c.in_err-pin.field-0.0 c.in_err-pin.ensures.0)

@@ -11,5 +11,5 @@ spoiled (w ∷ ws) = refl
 pub returns-in_err-found : goal.returns-in_err-found
 returns-in_err-found c =
     let after = left c.next_word.new.self in
-    c.from-residual.ensures ∙ sym (spoiled after) ∙ ap (λ o. layers_over o after) c.in_err-found.ensures
+    c.from_residual.ensures ∙ sym (spoiled after) ∙ ap (λ o. layers_over o after) c.in_err-found.ensures
     ∙ ap (layers_over (Some c.loop-word.found)) (sym c.in-Some.ensures) ∙ c.loop-word.invariant

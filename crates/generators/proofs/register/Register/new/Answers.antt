@@ -5,8 +5,10 @@ use Rattle.generators.proofs.register.Register.new.Goals as goal
 
 pub invariant_of-result : goal.invariant_of-result
 invariant_of-result c =
-    let m = c.in-Some.modulus in (
-      ap₂ (λ (x y : ℕ). x / 2 ^ (32 - y)) c.reverse_bits.ensures c.degree.ensures.value
-          ∙ taps_word m.degree c.args.polynomial (omega arith) ∙ ap (λ (p : ℕ). taps p m.degree) (sym c.in-Some.ensures.1),
-      (pow_pos m.degree, tt),
-    )
+    let m = c.in-Some.modulus in
+    record {
+      tapped =
+          ap₂ (λ (x y : ℕ). x / 2 ^ (32 - y)) c.reverse_bits.ensures c.degree.ensures.value ∙ taps_word m.degree c.args.polynomial (omega arith)
+          ∙ ap (λ (p : ℕ). taps p m.degree) (sym c.in-Some.ensures.1);
+      below = pow_pos m.degree;
+    }

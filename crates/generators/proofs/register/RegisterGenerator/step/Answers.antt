@@ -1,7 +1,7 @@
 use Rattle.std.proofs.Common.{ℕ, ◌-◌, ◌*◌, ◌%◌, ◌^◌, refl, ◌∙◌, ap₂}
 use lib.Bits.{bit_and, bit_or}
 use lib.Count.{ones}
-use Rattle.generators.specs.RegistersLemmas.{register_word}
+use Rattle.generators.specs.RegisterLaws.{register_word}
 use Rattle.generators.proofs.register.RegisterGenerator.step.Goals as goal
 
 pub returns : goal.returns
