@@ -30,6 +30,7 @@ pub trait Generator {
         ensures after { Answers result (word_refusal (meaning self.old).cells word) (λ _. state self.new ≡ word) }
         ensures kept { 2 ^ (meaning self.old).cells ≤ word → state self.new ≡ state self.old };
 
+    // The laws, which each `impl` proves.
     ghost lawful: { (g : Self) → Lawful (meaning g) };
 
     ghost below: { (g : Self) → state g < 2 ^ (meaning g).cells };

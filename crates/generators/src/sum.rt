@@ -22,6 +22,7 @@ pub trait Summand: Copy {
     fn plus(self, other: Self) -> Self
         ensures { result ≡ plus self other };
 
+    // The laws, which each `impl` proves.
     ghost unit: { (x : Self) → plus zero x ≡ x };
 
     ghost commutes: { (x y : Self) → plus x y ≡ plus y x };

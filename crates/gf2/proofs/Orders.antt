@@ -1,5 +1,5 @@
 -- Of two numbers, the first is below the second, or the second is not above the first.
-use Rattle.std.proofs.Common.{◌≡◌, ℕ, ◌<◌, ◌≤◌, ◌⊎◌, inl, inr, arith}
+use Rattle.std.proofs.Common.{ℕ, ◌<◌, ◌≤◌, ◌⊎◌, inl, inr, arith}
 use Rattle.std.proofs.lemmas.Bool.{cases_order}
 
 pub order : (m n : ℕ) → (m < n) ⊎ (n ≤ m)

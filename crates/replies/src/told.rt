@@ -1,6 +1,6 @@
 // What answers look like as text.
 ghost use Rattle.std.specs.Prelude.{◌≡◌, ℕ, List, map, IfOk, string_bytes, decimal};
-ghost use Rattle.replies.specs.Texts.{joined as JoinedBy, refusal_text, search_text, rig_text};
+ghost use Rattle.replies.specs.Texts.{joined as joined_by, refusal_text, search_text, rig_text};
 
 use rig::Answer as RigAnswer;
 use rings::{Refusal, Ring};
@@ -74,7 +74,7 @@ impl Told for RigAnswer {
 
 // The texts of the items with the separator between two, or "none".
 pub fn joined<T: Told>(heap: Global, separator: &str, items: &[T]) -> Result<String, AllocError>
-    ensures { IfOk result (λ s. string_bytes s ≡ JoinedBy separator.now (map told items.now)) }
+    ensures { IfOk result (λ s. string_bytes s ≡ joined_by separator.now (map T.told items.now)) }
 {
     let [first, rest @ ..] = items else {
         return String::from_str(heap, "none");

@@ -1,16 +1,15 @@
 -- One call more in the history of a rig: its answer is the right one, and the rig stays tied to the history.
-use Rattle.std.proofs.Common.{◌≡◌, ℕ, ◌+◌, ◌∷◌, Some, None, Ok, Err, Option, Result, sym, refl, ap, ◌∙◌, subst, ap₂, add-zero, add_comm}
+use Rattle.std.proofs.Common.{◌≡◌, ℕ, ◌+◌, ◌∷◌, None, Ok, Err, Option, Result, sym, refl, ap, ◌∙◌, subst, ap₂, add-zero, add_comm}
 use mathlib.Core.Path.{subst₃}
 use Rattle.rings.specs.declared.refusal.Refusal.{Refusal}
-use Rattle.rings.specs.Questions.{Answers}
 use Rattle.generators.specs.Generators.{Meaning}
 use Rattle.runs.specs.Runs.{History}
 use Rattle.rig.specs.declared.run.Call.{Call}
 use Rattle.rig.specs.declared.run.Call.TheVariants as call
 use Rattle.rig.specs.declared.run.Answer.{Answer}
 use Rattle.rig.specs.declared.run.Answer.TheVariants as answer
-use Rattle.rig.specs.Rigs.{View, Stands, seed_refusal, seeded, move_refusal, loaded, moved, Changes}
-use Rattle.rig.specs.Runs.{seed_in, clocks_in, accepted, first_of, up_to, seeds, last_seed, since_seed, total, elapsed, refused_or, pattern, right_answer, told, RigLaw, Tied, clocks}
+use Rattle.rig.specs.Rigs.{View, Stands, seed_refusal, move_refusal, loaded, moved, Changes}
+use Rattle.rig.specs.Runs.{seed_in, clocks_in, first_of, up_to, seeds, last_seed, since_seed, total, elapsed, refused_or, right_answer, told, RigLaw, Tied, clocks}
 use Rattle.rig.proofs.Moves.{stands_loaded, stands_moved}
 
 module _ (m : Meaning) (h : History Call Answer) where

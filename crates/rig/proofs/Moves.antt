@@ -1,5 +1,5 @@
 -- Seeds and moves keep the state what so many single steps from the seed make.
-use Rattle.std.proofs.Common.{◌≡◌, ℕ, zero, suc, ◌+◌, ◌^◌, Bool, true, false, not, eqb, ltb, Some, None, Option, sym, refl, ap, ◌∙◌, add-zero, add-suc, ne_eqb}
+use Rattle.std.proofs.Common.{◌≡◌, ℕ, zero, suc, ◌+◌, ◌^◌, Bool, true, false, not, eqb, ltb, None, Option, sym, refl, ap, ◌∙◌, add-zero, add-suc, ne_eqb}
 use Rattle.rings.specs.declared.refusal.Refusal.{Refusal}
 use Rattle.rings.specs.declared.refusal.Refusal.TheVariants.{WordTooLarge, SeedZero}
 use Rattle.rings.specs.Questions.{unless, word_refusal}

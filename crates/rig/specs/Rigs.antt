@@ -10,7 +10,7 @@
 --   loaded w             == a rig that was just seeded with w
 --   moved m v l          == the rig l steps later
 --   Changes r q v u w    == r refuses by q and v stays, as w shows, or q has no refusal and w is u
-use Rattle.std.specs.Prelude.{◌≡◌, ℕ, ◌+◌, ◌^◌, Bool, true, false, not, is_some, Some, None, Ok, Err, Option, Result, ◌==◌, nat_le, nat_lt}
+use Rattle.std.specs.Prelude.{◌≡◌, ℕ, ◌+◌, ◌^◌, not, is_some, Some, None, Ok, Err, Option, Result, ◌==◌, nat_le, nat_lt}
 use Rattle.rings.specs.declared.refusal.Refusal.{Refusal}
 use Rattle.rings.specs.declared.refusal.Refusal.TheVariants.{WordTooLarge, SeedZero, NotSeeded, ClockPastLimit}
 use Rattle.rings.specs.Questions.{unless}

@@ -12,7 +12,7 @@
 --   Changes r q w u w' == r refuses by q and w stays, as w' shows, or q has no refusal and w' is u
 --   Gives w v w'      == v is the vector of the fitting list after those given, and w' is w with v given too
 --   ended w           == w, running, with nothing more given
---   Goes_on r w w'    == r is the next vector, or refuses where all are given, and w' is what the search is then
+--   GoesOn r w w'    == r is the next vector, or refuses where all are given, and w' is what the search is then
 --   rewound w         == w at its start, with its pins
 use Rattle.std.specs.Prelude.{◌≡◌, ℕ, ◌-◌, Bool, true, false, not, ◌&&◌, List, [], ◌∷◌, ◌++◌, length, replicate, is_some, Some, None, Ok, Err, Option, Result, nat_le, nat_lt, slice_index_or, slice_set}
 use Rattle.gf2.specs.Algebra.{Degree}
@@ -87,9 +87,9 @@ pub record Gives (w : View) (v : ℕ) (w' : View) : Type 0 where
 abbrev pub ended : View → View
 ended w = record { polynomial = w.polynomial; cells = w.cells; pins = w.pins; given = w.given; running = true }
 
-abbrev pub Goes_on : Result ℕ Refusal → View → View → Type 0
-Goes_on (Ok v) w w' = (next_refusal w ≡ None) × Gives w v w'
-Goes_on (Err e) w w' = (next_refusal w ≡ Some e) × (w.given ≡ fitting w) × (w' ≡ ended w)
+abbrev pub GoesOn : Result ℕ Refusal → View → View → Type 0
+GoesOn (Ok v) w w' = (next_refusal w ≡ None) × Gives w v w'
+GoesOn (Err e) w w' = (next_refusal w ≡ Some e) × (w.given ≡ fitting w) × (w' ≡ ended w)
 
 abbrev pub rewound : View → View
 rewound w = record { polynomial = w.polynomial; cells = w.cells; pins = w.pins; given = []; running = false }

@@ -1,9 +1,9 @@
 -- The table of examples: its rows are computed, all at once, and what is computed of a row makes it hold.
-use Rattle.std.proofs.Common.{◌≡◌, ℕ, suc, ◌/◌, ◌^◌, Bool, cond, eqb, List, [], ◌∷◌, map, length, take, filter, sym, refl, ap, ◌∙◌, ap₂}
-use Rattle.std.specs.List.{AllByRecursion as All}
+use Rattle.std.proofs.Common.{◌≡◌, ℕ, suc, ◌/◌, ◌^◌, Bool, cond, eqb, List, [], ◌∷◌, map, length, take, filter, refl, ap, ◌∙◌, ap₂}
+use Rattle.std.specs.List.{AllByRecursion}
 use Rattle.gf2.specs.Algebra.{act, product}
 use Rattle.rings.specs.Cells.{cell, word, ring_next}
-use Rattle.rings.specs.Vectors.{polynomial_of, recurrence, recurrence_from}
+use Rattle.rings.specs.Vectors.{recurrence, recurrence_from}
 use Rattle.rings.proofs.Recurrence.{polynomial_recurrence}
 use Rattle.generators.specs.Generators.{Meaning, iterate}
 use Rattle.generators.specs.Registers.{total, register_cell, register_next}
@@ -104,7 +104,7 @@ holds (answered p n cs rs) e = (
 )
 holds (shown m w ps) e = shows_rows m w 0 ps (ap (λ z. z.0) e)
 
-all_hold : (es : List Example) → map computed es ≡ map expected es → All Holds es
+all_hold : (es : List Example) → map computed es ≡ map expected es → AllByRecursion Holds es
 all_hold [] e = tt
 all_hold (x ∷ es) e = (holds x (head_same e), all_hold es (tail_same e))
 

@@ -1,6 +1,6 @@
 -- What a search gives are vectors of its polynomial, and each makes a ring.
 use Rattle.std.proofs.Common.{◌≡◌, ℕ, zero, suc, ◌+◌, ◌^◌, ◌<◌, ◌≤◌, true, List, [], ◌∷◌, ◌++◌, length, get_or, take, Some, None, filter, Option, sym, refl, ap, ◌∙◌, subst, ap₂, subst₂, append_assoc, append-nil, arith, lt-ltb, eqb-true, le-leb}
-use Rattle.std.specs.List.{AllByRecursion as All}
+use Rattle.std.specs.List.{AllByRecursion}
 use Rattle.std.proofs.ByRecursion.{all_kept_by, kept_by_passes}
 use Rattle.std.proofs.lemmas.List.{take_more}
 use Rattle.rings.specs.declared.refusal.Refusal.{Refusal}
@@ -9,7 +9,7 @@ use Rattle.rings.specs.Questions.{vector_refusal}
 use Rattle.rings.specs.Vectors.{polynomial_of, recurrence}
 use Rattle.rings.proofs.Recurrence.{polynomial_recurrence}
 use Rattle.generators.specs.Rings.{ring_lawful}
-use Rattle.runs.specs.Runs.{Law, History, onto, history, Right}
+use Rattle.runs.specs.Runs.{History, onto, history, Right}
 use Rattle.runs.proofs.Determined.{right_before}
 use Rattle.search.specs.Lists.{from_on, has, vectors_below, full_list, fits, fitting_list, Of}
 use Rattle.service.specs.declared.searches.Call.{Call}
@@ -21,20 +21,20 @@ use Rattle.service.specs.Promises.{vectors, Within, Made, RingOf, Rings}
 
 -- ---- the fitting list holds vectors of the polynomial
 
-below : (b a k : ℕ) → a + k ≤ b → All (λ v. v < b) (from_on a k)
+below : (b a k : ℕ) → a + k ≤ b → AllByRecursion (λ v. v < b) (from_on a k)
 unfolding from_on
 below b a zero h = tt
 below b a (suc k) h = (omega arith, below b (suc a) k (omega arith))
 
-all_both : (P Q : ℕ → Type 0) (xs : List ℕ) → All P xs → All Q xs → All (λ x. P x × Q x) xs
+all_both : (P Q : ℕ → Type 0) (xs : List ℕ) → AllByRecursion P xs → AllByRecursion Q xs → AllByRecursion (λ x. P x × Q x) xs
 all_both P Q [] p q = tt
 all_both P Q (x ∷ xs) p q = ((p.0, q.0), all_both P Q xs p.1 q.1)
 
-all_as : (P Q : ℕ → Type 0) → ((x : ℕ) → P x → Q x) → (xs : List ℕ) → All P xs → All Q xs
+all_as : (P Q : ℕ → Type 0) → ((x : ℕ) → P x → Q x) → (xs : List ℕ) → AllByRecursion P xs → AllByRecursion Q xs
 all_as P Q f [] h = tt
 all_as P Q f (x ∷ xs) h = (f x h.0, all_as P Q f xs h.1)
 
-members : (n p : ℕ) (pins : List (Option ℕ)) → All (Of n p) (fitting_list n p pins)
+members : (n p : ℕ) (pins : List (Option ℕ)) → AllByRecursion (Of n p) (fitting_list n p pins)
 unfolding fitting_list full_list vectors_below has
 members n p pins =
     let all = from_on 0 (2 ^ n) in
@@ -42,7 +42,7 @@ members n p pins =
     all_kept_by (fits pins) (Of n p) (filter (has n p) all)
     (all_as (λ v. (v < 2 ^ n) × (has n p v ≡ true)) (Of n p) (λ v h. record { below = h.0; polynomial = eqb-true (polynomial_of n v) p h.1 }) (filter (has n p) all) passed)
 
-inside : (P : ℕ → Type 0) (xs : List ℕ) (v : ℕ) (ys : List ℕ) → All P (xs ++ (v ∷ ys)) → P v
+inside : (P : ℕ → Type 0) (xs : List ℕ) (v : ℕ) (ys : List ℕ) → AllByRecursion P (xs ++ (v ∷ ys)) → P v
 inside P [] v ys h = h.0
 inside P (x ∷ xs) v ys h = inside P xs v ys h.1
 
@@ -67,15 +67,15 @@ module _ (p n : ℕ) where
   law_gives h call.Next answer.Done r = tt
   law_gives h call.Next (answer.Count k) r = tt
   law_gives h call.Next (answer.Refused q) r = tt
-  law_gives h call.Next (answer.Vector v) r = inside (Of n p) _ v r.0 (subst (All (Of n p)) r.1 (members n p _))
+  law_gives h call.Next (answer.Vector v) r = inside (Of n p) _ v r.0 (subst (AllByRecursion (Of n p)) r.1 (members n p _))
 
-  run_gives : (h : History Call Answer) (cs : List Call) (rs : List Answer) → length rs ≡ length cs → Right (SearchLaw p n) (onto h cs rs) → All Gave rs
+  run_gives : (h : History Call Answer) (cs : List Call) (rs : List Answer) → length rs ≡ length cs → Right (SearchLaw p n) (onto h cs rs) → AllByRecursion Gave rs
   run_gives h cs [] e r = tt
   run_gives h [] (a ∷ rs) e r = absurd (omega arith)
   run_gives h (c ∷ cs) (a ∷ rs) e r =
       (law_gives h c a (right_before (SearchLaw p n) ((c, a) ∷ h) cs rs r).0, run_gives ((c, a) ∷ h) cs rs (omega arith) r)
 
-  pub gives : (cs : List Call) (rs : List Answer) → length rs ≡ length cs → Right (SearchLaw p n) (history cs rs) → All Gave rs
+  pub gives : (cs : List Call) (rs : List Answer) → length rs ≡ length cs → Right (SearchLaw p n) (history cs rs) → AllByRecursion Gave rs
   gives cs rs e r = run_gives [] cs rs e r
 
   within_one : (a : Answer) → Gave a → Within n a
@@ -84,7 +84,7 @@ module _ (p n : ℕ) where
   within_one (answer.Vector v) g = g.below
   within_one (answer.Refused q) g = tt
 
-  pub within_all : (rs : List Answer) → All Gave rs → All (Within n) rs
+  pub within_all : (rs : List Answer) → AllByRecursion Gave rs → AllByRecursion (Within n) rs
   within_all [] g = tt
   within_all (a ∷ rs) g = (within_one a g.0, within_all rs g.1)
 
@@ -99,20 +99,20 @@ module _ (p n : ℕ) where
         lawful = ring_lawful r.vector.cells r.vector.rules r.polynomial r.own r.vector.some r.vector.few;
       }
 
-  rings_kept : (vs : List ℕ) (rs : List Ring) → All (Of n p) vs → Made n vs rs → Rings p n vs rs
+  rings_kept : (vs : List ℕ) (rs : List Ring) → AllByRecursion (Of n p) vs → Made n vs rs → Rings p n vs rs
   rings_kept [] [] a m = tt
   rings_kept [] (r ∷ rs) a m = m
   rings_kept (v ∷ vs) [] a m = m
   rings_kept (v ∷ vs) (r ∷ rs) a m = (ring_kept v r a.0 m.0 m.1, rings_kept vs rs a.1 m.2)
 
-  all_vectors : (rs : List Answer) → All Gave rs → All (Of n p) (vectors rs)
+  all_vectors : (rs : List Answer) → AllByRecursion Gave rs → AllByRecursion (Of n p) (vectors rs)
   all_vectors [] g = tt
   all_vectors (answer.Done ∷ rs) g = all_vectors rs g.1
   all_vectors (answer.Count k ∷ rs) g = all_vectors rs g.1
   all_vectors (answer.Vector v ∷ rs) g = (g.0, all_vectors rs g.1)
   all_vectors (answer.Refused q ∷ rs) g = all_vectors rs g.1
 
-  pub rings_all : (rs : List Answer) (made : List Ring) → All Gave rs → Made n (vectors rs) made → Rings p n (vectors rs) made
+  pub rings_all : (rs : List Answer) (made : List Ring) → AllByRecursion Gave rs → Made n (vectors rs) made → Rings p n (vectors rs) made
   rings_all rs made g m = rings_kept (vectors rs) made (all_vectors rs g) m
 
 -- ---- one answer more

@@ -1,5 +1,5 @@
 -- One call more in the history of a search: its answer is the right one, and the search stays tied to the history.
-use Rattle.std.proofs.Common.{◌≡◌, ℕ, ◌∷◌, Ok, Err, Option, Result, sym, refl, ap, ◌∙◌, subst, ap₂, subst₂}
+use Rattle.std.proofs.Common.{◌≡◌, ℕ, ◌∷◌, Ok, Err, Option, Result, sym, ap, ◌∙◌, subst, ap₂, subst₂}
 use Rattle.rings.specs.declared.refusal.Refusal.{Refusal}
 use Rattle.runs.specs.Runs.{History}
 use Rattle.search.specs.Views.{View, Changes}

@@ -10,7 +10,7 @@
 --   table               == all rows
 --   Examples            == every row of the table holds
 use Rattle.std.specs.Prelude.{◌≡◌, ℕ, suc, List, [], ◌∷◌}
-use Rattle.std.specs.List.{AllByRecursion as All}
+use Rattle.std.specs.List.{AllByRecursion}
 use Rattle.gf2.specs.Algebra.{Degree}
 use Rattle.rings.specs.declared.refusal.Refusal.TheVariants.{NoVectorLeft}
 use Rattle.rings.specs.Cells.{ring_next}
@@ -65,4 +65,4 @@ table =
     ∷ []
 
 abbrev pub Examples : Type 0
-Examples = All Holds table
+Examples = AllByRecursion Holds table

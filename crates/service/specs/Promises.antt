@@ -18,7 +18,6 @@ use Rattle.generators.specs.Generators.{Meaning, Lawful, plain}
 use Rattle.runs.specs.Runs.{Obeys}
 use Rattle.rig.specs.Runs.{RigLaw}
 use Rattle.rig.specs.declared.run.Call as rig-call
-use Rattle.rig.specs.declared.run.Answer as rig_answer
 use Rattle.service.specs.declared.searches.Call.{Call}
 use Rattle.service.specs.declared.searches.Answer.{Answer}
 use Rattle.service.specs.declared.searches.Answer.TheVariants as answer

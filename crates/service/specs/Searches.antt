@@ -15,7 +15,7 @@
 --   SearchLaw p n       == each answer is the right one after what came before it
 --   answer_by vs w c     == the answer to the call c at w, where vs is the fitting list
 --   right_answer p n h c == the only right answer to the call c after the history h
-use Rattle.std.specs.Prelude.{◌≡◌, ℕ, ◌-◌, Bool, true, false, List, [], ◌∷◌, ◌++◌, length, drop, set, replicate, Some, None, Ok, Err, Option, Result, slice_set}
+use Rattle.std.specs.Prelude.{◌≡◌, ℕ, ◌-◌, Bool, true, false, List, [], ◌∷◌, ◌++◌, length, drop, replicate, Some, None, Ok, Err, Option, Result, slice_set}
 use Rattle.rings.specs.declared.refusal.Refusal.{Refusal}
 use Rattle.rings.specs.declared.refusal.Refusal.TheVariants.{NoVectorLeft}
 use Rattle.runs.specs.Runs.{Law, History}

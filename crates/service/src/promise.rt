@@ -1,6 +1,6 @@
 // The whole promise about runs, on one call.
 ghost use Rattle.std.specs.Prelude.{◌≡◌, ◌<◌, ◌≤◌, IfOk, None};
-ghost use Rattle.std.specs.List.{AllByRecursion as All};
+ghost use Rattle.std.specs.List.{AllByRecursion};
 ghost use Rattle.rings.specs.Questions.{vector_refusal};
 ghost use Rattle.service.specs.Examples.{Examples};
 ghost use Rattle.service.specs.Promises.{vectors, Within, Made, Keeps};
@@ -63,7 +63,7 @@ pub fn perform<G: Generator + Drop>(
 fn rings_of(heap: Global, cells: u32, answers: &[Answer]) -> Result<Vec<Ring>, AllocError>
     requires some { 1 ≤ cells }
     requires few { cells ≤ 31 }
-    requires given { All (Within cells) answers.now }
+    requires given { AllByRecursion (Within cells) answers.now }
     ensures { IfOk result (λ rings. Made cells (vectors answers.now) rings.items) }
 {
     let mut rings = Vec::new(heap);

@@ -1,5 +1,4 @@
-// The calls that bench/ times, as C sees them. What is refused answers 0, which is no polynomial's answer to a
-// measurement.
+// The calls that bench/ times. What is refused answers 0, which is no polynomial's answer to a measurement.
 #![tactic(auto)]
 
 ghost use Rattle.std.specs.Prelude.{◌≡◌, ℕ, ◌<◌, ◌≤◌, [], Some, None, fold, bit_xor};
@@ -17,8 +16,7 @@ use gf2::Modulus;
 use rings::{Refusal, Ring, polynomial_of};
 use search::Search;
 
-#[unsafe(no_mangle)]
-pub extern "C" fn timed_product(p: u32, a: u32, b: u32) -> u32
+pub fn timed_product(p: u32, a: u32, b: u32) -> u32
     ensures refused { p < 2 → result ≡ 0 }
     ensures value { 2 ≤ p → Leaves (product a b) p result }
 {
@@ -28,8 +26,7 @@ pub extern "C" fn timed_product(p: u32, a: u32, b: u32) -> u32
     }
 }
 
-#[unsafe(no_mangle)]
-pub extern "C" fn timed_power_of_x(p: u32, e: u64) -> u32
+pub fn timed_power_of_x(p: u32, e: u64) -> u32
     ensures refused { p < 2 → result ≡ 0 }
     ensures value { 2 ≤ p → Leaves (power_of_x e) p result }
 {
@@ -39,8 +36,7 @@ pub extern "C" fn timed_power_of_x(p: u32, e: u64) -> u32
     }
 }
 
-#[unsafe(no_mangle)]
-pub extern "C" fn timed_polynomial_of(cells: u32, vector: u32) -> u32
+pub fn timed_polynomial_of(cells: u32, vector: u32) -> u32
     ensures { elim (vector_refusal cells vector) [ None ↦ result ≡ polynomial_of cells vector | Some q ↦ result ≡ 0 ] }
 {
     match polynomial_of(cells, vector) {
@@ -50,8 +46,7 @@ pub extern "C" fn timed_polynomial_of(cells: u32, vector: u32) -> u32
 }
 
 // The state of a ring so many single steps after a state.
-#[unsafe(no_mangle)]
-pub extern "C" fn timed_steps(cells: u32, vector: u32, state: u32, count: u32) -> u32
+pub fn timed_steps(cells: u32, vector: u32, state: u32, count: u32) -> u32
     ensures { elim (start_refusal cells vector state) [ None ↦ result ≡ iterate (ring_next cells vector) count state | Some q ↦ result ≡ 0 ] }
 {
     match loaded(cells, vector, state) {
@@ -61,8 +56,7 @@ pub extern "C" fn timed_steps(cells: u32, vector: u32, state: u32, count: u32) -
 }
 
 // The same by one jump.
-#[unsafe(no_mangle)]
-pub extern "C" fn timed_jump(cells: u32, vector: u32, state: u32, length: u64) -> u32
+pub fn timed_jump(cells: u32, vector: u32, state: u32, length: u64) -> u32
     ensures { elim (start_refusal cells vector state) [ None ↦ result ≡ iterate (ring_next cells vector) length state | Some q ↦ result ≡ 0 ] }
 {
     match loaded(cells, vector, state) {
@@ -92,8 +86,7 @@ fn stepped(mut ring: Ring, count: u32) -> u32
 }
 
 // The sum of all vectors of a polynomial, bit by bit.
-#[unsafe(no_mangle)]
-pub extern "C" fn timed_vectors(p: u32) -> u32
+pub fn timed_vectors(p: u32) -> u32
     ensures { elim (polynomial_refusal p) [ None ↦ (n : ℕ) → Degree p n → result ≡ fold bit_xor 0 (full_list n p) | Some q ↦ result ≡ 0 ] }
 {
     match Search::open(p) {

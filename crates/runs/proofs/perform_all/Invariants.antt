@@ -1,4 +1,4 @@
-use Rattle.std.proofs.Common.{◌≤◌, List, [], length, vec_items}
+use Rattle.std.proofs.Common.{◌≤◌, [], length, vec_items}
 use Rattle.runs.proofs.Turns.{Carries, Sofar}
 use Rattle.runs.proofs.perform_all.Given as goal
 

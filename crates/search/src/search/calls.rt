@@ -2,7 +2,7 @@
 ghost use Rattle.std.specs.Prelude.{◌≡◌, ◌-◌, length, Some, None};
 ghost use Rattle.rings.specs.Questions.{Answers, polynomial_refusal};
 ghost use Rattle.search.specs.Identity.{Identity};
-ghost use Rattle.search.specs.Views.{view, fitting, Opened, cell_refusal, pin_refusal, unpin_refusal, with_pin, Changes, Goes_on, rewound};
+ghost use Rattle.search.specs.Views.{view, fitting, Opened, cell_refusal, pin_refusal, unpin_refusal, with_pin, Changes, GoesOn, rewound};
 
 use super::Search;
 use crate::candidates::Candidates;
@@ -73,7 +73,7 @@ impl Search {
 
     // The fitting vector after the last one given, or the first.
     pub fn next(&mut self) -> Result<u32, Refusal>
-        ensures { Goes_on result (view self.old) (view self.new) }
+        ensures { GoesOn result (view self.old) (view self.new) }
     {
         self.running = true;
         let Some(vector) = self.candidates.least(&self.pins, self.from) else {

@@ -1,4 +1,4 @@
-use Rattle.std.proofs.Common.{ℕ, List, fold, ap, ◌∙◌, ap₂}
+use Rattle.std.proofs.Common.{ℕ, List, fold, ap, ◌∙◌}
 use lib.Bits.{bit_xor}
 use Rattle.gf2.proofs.Division.{degree_unique}
 use Rattle.search.specs.Lists.{full_list}

@@ -1,5 +1,5 @@
 use Rattle.std.proofs.Common.{ℕ, ◌≤◌, vec_items, sym, subst}
-use Rattle.std.specs.List.{AllByRecursion as All}
+use Rattle.std.specs.List.{AllByRecursion}
 use Rattle.search.specs.Views.{view}
 use Rattle.service.specs.Promises.{vectors, Within, Made}
 use Rattle.service.proofs.Given.{gives, within_all, rings_all}
@@ -21,7 +21,7 @@ rings_of-requires g c =
     record {
       some = subst (λ (k : ℕ). 1 ≤ k) cells modulus.low;
       few = subst (λ (k : ℕ). k ≤ 31) cells modulus.high;
-      given = subst (All (Within n)) (sym c.as_slice.ensures.value) (within_all p n answers (gives p n c.args.calls.now answers obeys.all obeys.right));
+      given = subst (AllByRecursion (Within n)) (sym c.as_slice.ensures.value) (within_all p n answers (gives p n c.args.calls.now answers obeys.all obeys.right));
     }
 
 pub returns : goal.returns

@@ -1,5 +1,5 @@
-use Rattle.std.proofs.Common.{◌≡◌, sym, ◌∙◌, subst, ap₂}
-use Rattle.rig.specs.Rigs.{view, Stands, moved}
+use Rattle.std.proofs.Common.{sym, ◌∙◌, subst, ap₂}
+use Rattle.rig.specs.Rigs.{view, Stands}
 use Rattle.rig.proofs.Moves.{iterate_one, stands_moved}
 use Rattle.rig.proofs.rig.Rig.step.Goals as goal
 
