@@ -1,4 +1,4 @@
-use Rattle.std.proofs.Common.{ℕ, List, map, vec_items, string_bytes, codes, decimal, sym, ap, ◌∙◌, ap₂}
+use Rattle.std.proofs.Common.{ℕ, List, map, vec_items, string_bytes, codes, decimal, sym, ◌∙◌, ap₂}
 use Rattle.search.specs.Views.{view}
 use Rattle.replies.specs.Texts.{said, joined}
 use Rattle.replies.proofs.Searched.{all_fitting}
