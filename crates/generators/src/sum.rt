@@ -1,10 +1,9 @@
 // Sums of chosen items, over anything that adds up like bits.
 ghost use Rattle.std.specs.Prelude.{◌≡◌, length, bit_xor};
 ghost use Rattle.std.proofs.lemmas.Nat.{xor_comm};
-ghost use Rattle.std.specs.Int.Bits.{xor_assoc, xor_self};
+ghost use Rattle.std.specs.Int.Bits.{xor_assoc, xor_self, xor_zero_l};
 ghost use Rattle.rings.specs.Questions.{Answers};
 ghost use Rattle.generators.specs.Chosen.{chosen, items_refusal};
-ghost use Rattle.std.proofs.Common.{rules};
 
 use rings::Refusal;
 
@@ -38,7 +37,7 @@ impl Summand for u32 {
 
     ghost plus = { bit_xor };
 
-    ghost unit = { Prim.search rules };
+    ghost unit = { xor_zero_l };
 
     ghost commutes = { xor_comm };
 

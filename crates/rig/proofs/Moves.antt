@@ -1,5 +1,5 @@
 -- Seeds and moves keep the state what so many single steps from the seed make.
-use Rattle.std.proofs.Common.{◌≡◌, ℕ, zero, suc, ◌+◌, ◌^◌, Bool, true, false, not, eqb, ltb, None, Option, sym, refl, ap, ◌∙◌, add-zero, add-suc, ne_eqb}
+use Rattle.std.proofs.Common.{◌≡◌, ℕ, zero, suc, ◌+◌, ◌^◌, Bool, true, false, not, eqb, ltb, None, Option, sym, refl, ap, ◌∙◌, subst, add-zero, add-suc, ne_eqb}
 use Rattle.rings.specs.declared.refusal.Refusal.{Refusal}
 use Rattle.rings.specs.declared.refusal.Refusal.TheVariants.{WordTooLarge, SeedZero}
 use Rattle.rings.specs.Questions.{unless, word_refusal}
@@ -17,6 +17,9 @@ iterate_more f c (suc l) s = ap f (iterate_more f c l s) ∙ ap (λ (n : ℕ). i
 
 pub stands_moved : (m : Meaning) (v : View) (l : ℕ) → Stands m v → Stands m (moved m v l)
 stands_moved m v l h w e = ap (iterate m.next l) (h w e) ∙ iterate_more m.next v.clock l w
+
+pub stands_after : (m : Meaning) (v u : View) (l : ℕ) → u ≡ moved m v l → Stands m v → Stands m u
+stands_after m v u l is h = subst (Stands m) (sym is) (stands_moved m v l h)
 
 pub stands_loaded : (m : Meaning) (w : ℕ) → Stands m (loaded w)
 unfolding iterate

@@ -13,7 +13,7 @@
 --   told r            == how a run tells of a seed, a step or a jump
 --   pattern m w c     == what the generator shows c single steps after the seed w
 --   right_answer m h c == the answer that the questions give to the call c after the history h
---   RigLaw m         == each answer is the right one
+--   RigLaw m          == each answer is the right one
 --   Tied m v h        == v is what a rig holds after the history h
 use Rattle.std.specs.Prelude.{◌≡◌, ℕ, ◌+◌, Bool, true, false, cond, [], ◌∷◌, Some, None, Ok, Err, Option, Result}
 use Rattle.rings.specs.declared.refusal.Refusal.{Refusal}

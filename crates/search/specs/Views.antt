@@ -12,7 +12,7 @@
 --   Changes r q w u w' == r refuses by q and w stays, as w' shows, or q has no refusal and w' is u
 --   Gives w v w'      == v is the vector of the fitting list after those given, and w' is w with v given too
 --   ended w           == w, running, with nothing more given
---   GoesOn r w w'    == r is the next vector, or refuses where all are given, and w' is what the search is then
+--   GoesOn r w w'     == r is the next vector, or refuses where all are given, and w' is what the search is then
 --   rewound w         == w at its start, with its pins
 use Rattle.std.specs.Prelude.{◌≡◌, ℕ, ◌-◌, Bool, true, false, not, ◌&&◌, List, [], ◌∷◌, ◌++◌, length, replicate, is_some, Some, None, Ok, Err, Option, Result, nat_le, nat_lt, slice_index_or, slice_set}
 use Rattle.gf2.specs.Algebra.{Degree}

@@ -3,9 +3,8 @@ ghost use Rattle.std.specs.Prelude.{◌≡◌};
 ghost use Rattle.std.proofs.Math.Path.{ap₂};
 ghost use Rattle.search.specs.Systems.{value as comes_to, plus as sum_of};
 ghost use Rattle.std.proofs.lemmas.Nat.{xor_comm};
-ghost use Rattle.std.specs.Int.Bits.{xor_assoc, xor_self};
+ghost use Rattle.std.specs.Int.Bits.{xor_assoc, xor_self, xor_zero_l};
 ghost use Rattle.search.specs.EquationLaws.{made_of};
-ghost use Rattle.std.proofs.Common.{rules};
 
 use generators::Summand;
 
@@ -31,7 +30,7 @@ impl Summand for Equation {
 
     ghost plus = { sum_of };
 
-    ghost unit = { Prim.search rules };
+    ghost unit = { λ x. ap₂ made_of (xor_zero_l x.word) (xor_zero_l x.bit) };
 
     ghost commutes = { λ x y. ap₂ made_of (xor_comm x.word y.word) (xor_comm x.bit y.bit) };
 

@@ -3,7 +3,7 @@
 --   vectors rs             == all vectors that the answers rs give, in their order
 --   Within n a             == what the answer a gives, if it gives a vector, is one of n cells
 --   Made n vs rs           == rs are rings of n cells with the vectors vs
---   RingOf p n v r        == r is a ring of n cells with the vector v, its own polynomial is p, and it keeps the laws of a
+--   RingOf p n v r         == r is a ring of n cells with the vector v, its own polynomial is p, and it keeps the laws of a
 --                             generator
 --   Rings p n vs rs        == one such ring for each of the vectors vs
 --   Promise p cs m ds o    == a search on p answers the calls cs, a rig over the generator m answers the calls ds, and each

@@ -9,10 +9,10 @@
 --   view_after p n h     == a search on p, of degree n, after the history h
 --   refused_or q a       == the refusal q if there is one, else the answer a
 --   told r               == how a run tells of a pin that was set or removed
---   NextRight w a       == next gives the first vector of the fitting list that was not given since then, or refuses
+--   NextRight w a        == next gives the first vector of the fitting list that was not given since then, or refuses
 --                           because all of them were
---   RightAfter w c a    == a is the right answer to the call c at w
---   SearchLaw p n       == each answer is the right one after what came before it
+--   RightAfter w c a     == a is the right answer to the call c at w
+--   SearchLaw p n        == each answer is the right one after what came before it
 --   answer_by vs w c     == the answer to the call c at w, where vs is the fitting list
 --   right_answer p n h c == the only right answer to the call c after the history h
 use Rattle.std.specs.Prelude.{◌≡◌, ℕ, ◌-◌, Bool, true, false, List, [], ◌∷◌, ◌++◌, length, drop, replicate, Some, None, Ok, Err, Option, Result, slice_set}
