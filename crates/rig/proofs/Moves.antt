@@ -1,12 +1,12 @@
 -- Seeds and moves keep the state what so many single steps from the seed make.
-use Rattle.std.proofs.Common.{◌≡◌, ℕ, zero, suc, ◌+◌, ◌^◌, Bool, true, false, not, eqb, ltb, None, Option, sym, refl, ap, ◌∙◌, subst, add-zero, add-suc, ne_eqb}
+use Rattle.std.proofs.Common.{◌≡◌, ℕ, zero, suc, ◌+◌, ◌^◌, Bool, true, false, not, eqb, ltb, None, Option, sym, refl, ap, ap₂, ◌∙◌, subst, add-zero, add-suc, ne_eqb}
 use Rattle.rings.specs.declared.refusal.Refusal.{Refusal}
 use Rattle.rings.specs.declared.refusal.Refusal.TheVariants.{WordTooLarge, SeedZero}
 use Rattle.rings.specs.Questions.{unless, word_refusal}
 use Rattle.generators.specs.Generators.{Meaning, iterate}
-use Rattle.rig.specs.Rigs.{View, Stands, seed_refusal, loaded, moved}
+use Rattle.rig.specs.Rigs.{View, view, Stands, seed_refusal, loaded, moved}
 
-pub iterate_one : (f : ℕ → ℕ) (s : ℕ) → iterate f 1 s ≡ f s
+iterate_one : (f : ℕ → ℕ) (s : ℕ) → iterate f 1 s ≡ f s
 unfolding iterate
 iterate_one f s = refl
 
@@ -20,6 +20,10 @@ stands_moved m v l h w e = ap (iterate m.next l) (h w e) ∙ iterate_more m.next
 
 pub stands_after : (m : Meaning) (v u : View) (l : ℕ) → u ≡ moved m v l → Stands m v → Stands m u
 stands_after m v u l is h = subst (Stands m) (sym is) (stands_moved m v l h)
+
+-- one single step is a move by one
+pub stepped : (m : Meaning) (v : View) (c s : ℕ) → c ≡ v.clock + 1 → s ≡ m.next v.state → view v.seed c s ≡ moved m v 1
+stepped m v c s clock state = ap₂ (view v.seed) clock (state ∙ sym (iterate_one m.next v.state))
 
 pub stands_loaded : (m : Meaning) (w : ℕ) → Stands m (loaded w)
 unfolding iterate
