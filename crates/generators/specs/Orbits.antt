@@ -1,6 +1,6 @@
 -- Walks and jumps: x^c acts as c steps, so what x^c leaves modulo the polynomial of a generator, as a choice among the
 -- states that come next, gives the state after c steps.
-use Rattle.std.specs.Prelude.{◌≡◌, ℕ, zero, suc, ◌+◌, ◌-◌, ◌*◌, ◌/◌, ◌%◌, ◌^◌, ◌<◌, List, [], ◌∷◌, ◌++◌, length, take, bit_xor, slice_set}
+use Rattle.std.specs.Prelude.{◌≡◌, ℕ, zero, suc, ◌+◌, ◌*◌, ◌/◌, ◌%◌, ◌^◌, ◌<◌, List, [], ◌∷◌, ◌++◌, length, take, bit_xor, slice_set}
 use Rattle.std.proofs.Math.Path.{refl, sym, ap, ap₂}
 use Rattle.std.proofs.Common.{◌∙◌, subst, mod-lt, mod-eq_of_lt, zero-lt-suc, zero-mul, one-mul, add-one, arith, pow_pos, shr_lt, length-set, take-suc-set}
 use Rattle.std.proofs.Math.Arith.{lt-one}
@@ -67,31 +67,30 @@ module _ (m : Meaning) (lawful : Lawful m) (s : ℕ) (h : s < 2 ^ m.cells) (c r 
   pub jump_below : iterate m.next c s < 2 ^ m.cells
   jump_below = subst (λ (z : ℕ). z < 2 ^ m.cells) (sym iterate_act) (act_below m.cells m.next lawful.next.below r s h)
 
-  -- the states that a walk of n steps has kept, chosen by r; a part of the places from 0 on has its length as n − 0
-  pub jump_word : (n word : ℕ) (states : List ℕ) → Degree m.polynomial n → take n states ≡ orbit m.next n s
-      → word ≡ chosen 0 bit_xor (take (n - 0) states) r → word ≡ iterate m.next c s
+  -- the states that a walk of n steps has kept, chosen by r
+  pub jump_word : (n word : ℕ) (states : List ℕ) → Degree m.polynomial n → states ≡ orbit m.next n s → word ≡ chosen 0 bit_xor states r → word ≡ iterate m.next c s
   jump_word n word states hn passed is =
-      let whole : n - 0 ≡ n = omega arith in
-      is ∙ ap (λ (k : ℕ). chosen 0 bit_xor (take k states) r) whole ∙ ap (λ (items : List ℕ). chosen 0 bit_xor items r) passed
+      is ∙ ap (λ (items : List ℕ). chosen 0 bit_xor items r) passed
       ∙ orbit_chosen m.next n r s (leaves_below (power_of_x c) m.polynomial r n hn l) ∙ sym iterate_act
 
 -- ---- the loop that walks and keeps the states it passes
 
-pub record Walked (entry now : Meaning) (start state i : ℕ) (states : List ℕ) : Type 0 where
+-- there is room for so many states
+pub record Walked (room : ℕ) (entry now : Meaning) (start state i : ℕ) (states : List ℕ) : Type 0 where
   pub same : now ≡ entry
   pub reached : state ≡ iterate entry.next i start
   pub passed : take i states ≡ orbit entry.next i start
-  pub size : length states ≡ 32
+  pub size : length states ≡ room
 
-pub walked_none : (m : Meaning) (s : ℕ) (states : List ℕ) → length states ≡ 32 → Walked m m s s 0 states
+pub walked_none : (room : ℕ) (m : Meaning) (s : ℕ) (states : List ℕ) → length states ≡ room → Walked room m m s s 0 states
 unfolding iterate orbit
-walked_none m s states h = record { same = refl; reached = refl; passed = refl; size = h }
+walked_none room m s states h = record { same = refl; reached = refl; passed = refl; size = h }
 
 pub walked_more :
-    (entry now after : Meaning) (start state state' i v : ℕ) (states : List ℕ) → Walked entry now start state i states → i < 32 → v ≡ state → after ≡ now → state' ≡ now.next state
-    → Walked entry after start state' (i + 1) (slice_set states i v)
+    (room : ℕ) (entry now after : Meaning) (start state state' i v : ℕ) (states : List ℕ) → Walked room entry now start state i states → i < room → v ≡ state → after ≡ now → state' ≡ now.next state
+    → Walked room entry after start state' (i + 1) (slice_set states i v)
 unfolding iterate
-walked_more entry now after start state state' i v states w few read kept stepped =
+walked_more room entry now after start state state' i v states w few read kept stepped =
     let within : i < length states = subst (λ (k : ℕ). i < k) (sym w.size) few in
     record {
       same = kept ∙ w.same;

@@ -7,6 +7,7 @@ use crate::Generator;
 use rings::Refusal;
 
 // The polynomial p stays: through the rule taken twice, p acts as p·p does through the rule, and so annihilates it.
+// What a layer leaves as it is, it hands to the generator below in a line each; a trait of layers with its laws would be longer.
 #[derive(Drop)]
 pub struct Doubler<G> {
     below: G,

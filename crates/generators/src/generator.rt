@@ -5,7 +5,9 @@ ghost use Rattle.generators.specs.Generators.{Meaning, Lawful};
 
 use rings::Refusal;
 
-// A state that moves by a linear rule. The rules and the polynomial never change; only the state does.
+// A state that moves by a linear rule. The rules and the polynomial never change; only the state does. Meaning and state are
+// apart, so each call that moves a generator says by `same` that the meaning stays: of one record, every law and clause that asks for
+// one of the two would read `(view g).meaning.cells` for `(meaning g).cells`.
 pub trait Generator {
     ghost meaning: { Self → Meaning };
 

@@ -1,5 +1,5 @@
 // Jumps: the state after any number of steps, for about as many steps as there are cells.
-ghost use Rattle.std.specs.Prelude.{◌≡◌, ℕ, ◌^◌, ◌≤◌, length as size, take};
+ghost use Rattle.std.specs.Prelude.{◌≡◌, ℕ, ◌^◌, length};
 ghost use Rattle.gf2.specs.Algebra.{power_of_x, Leaves};
 ghost use Rattle.generators.specs.Generators.{iterate, orbit};
 
@@ -30,6 +30,7 @@ pub fn leap<G: Generator>(g: &mut G, d: u32)
 fn modulus_of<G: Generator>(g: &G) -> Modulus
     ensures { result.polynomial ≡ (G.meaning g.now).polynomial }
 {
+    // By `unwrap` the same proof would need a lemma on options.
     let Some(modulus) = Modulus::new(g.polynomial()) else {
         unreachable();
     };
@@ -43,27 +44,22 @@ fn land<G: Generator>(g: &mut G, modulus: Modulus, residue: u32)
     ensures same { G.meaning g.new ≡ G.meaning g.old }
     ensures after { (c : ℕ) → Leaves (power_of_x c) modulus.polynomial residue → G.state g.new ≡ iterate (G.meaning g.old).next c (G.state g.old) }
 {
-    let cells = modulus.degree() as usize;
-    let states = first_states(g, cells);
+    // There is no heap here, so the states stand in a buffer of the most that there can be.
+    let mut buffer = [0; MAX_STATES];
+    let states = &mut buffer[..modulus.degree() as usize];
+    keep_states(g, states);
     // There are no more states than items in a sum.
-    let Ok(word) = chosen_sum(&states[0..cells], residue) else {
-        unreachable();
-    };
+    let word = chosen_sum(states, residue).unwrap();
     let _ = g.load(word);
 }
 
-// The state and those that follow it, count in all; the generator moves on past them.
-fn first_states<G: Generator>(g: &mut G, count: usize) -> [u32; MAX_STATES]
-    requires { count ≤ 32 }
+// The state and those that follow it, as many as there are places; the generator moves on past them.
+fn keep_states<G: Generator>(g: &mut G, states: &mut [u32])
     ensures same { G.meaning g.new ≡ G.meaning g.old }
-    ensures value { take count result ≡ orbit (G.meaning g.old).next count (G.state g.old) }
-    ensures size { size result ≡ 32 }
+    ensures value { states.new ≡ orbit (G.meaning g.old).next (length states.old) (G.state g.old) }
 {
-    let mut states = [0; MAX_STATES];
-    for i in 0..count {
-        let state = g.state();
-        states[i] = state;
+    for state in states.iter_mut() {
+        *state = g.state();
         g.step();
     }
-    states
 }

@@ -7,7 +7,7 @@ ghost use Rattle.generators.specs.RegisterLaws.{register_lawful};
 
 use crate::Generator;
 use gf2::Modulus;
-use rings::Refusal;
+use rings::{Refusal, state_of};
 
 // The register of a polynomial p of degree n. Cell i feeds back where p has x^(n−i); the word of taps has those cells at 1.
 #[derive(Clone, Copy)]
@@ -24,9 +24,7 @@ impl Register {
     pub fn new(polynomial: u32) -> Result<Register, Refusal>
         ensures { Answers result (polynomial_refusal polynomial) (λ g. (g.modulus.polynomial ≡ polynomial) × (g.state ≡ 0)) }
     {
-        let Some(modulus) = Modulus::new(polynomial) else {
-            return Err(Refusal::PolynomialBelowTwo);
-        };
+        let modulus = Modulus::new(polynomial).ok_or(Refusal::PolynomialBelowTwo)?;
         // Cell i stands in bit i − 1, and x^(n−i) in bit n − i.
         Ok(Register {
             modulus,
@@ -67,10 +65,7 @@ impl Generator for Register {
     }
 
     fn load(&mut self, word: u32) -> Result<(), Refusal> {
-        if word >> self.modulus.degree() != 0 {
-            return Err(Refusal::WordTooLarge);
-        }
-        self.state = word;
+        self.state = state_of(self.modulus.degree(), word)?;
         Ok(())
     }
 }

@@ -1,4 +1,4 @@
-// A ring as a generator: it shows its cells.
+// A ring as a generator: it shows its cells. Its calls are those of `rings`, which knows no generators.
 ghost use Rattle.rings.specs.Cells.{ring_next};
 ghost use Rattle.generators.specs.Generators.{plain};
 ghost use Rattle.generators.specs.Rings.{ring_lawful};

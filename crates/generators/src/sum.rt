@@ -62,12 +62,10 @@ pub fn chosen_sum<T: Summand>(items: &[T], word: u32) -> Result<T, Refusal>
         return Err(Refusal::TooManyItems);
     }
     let mut sum = T::zero();
-    let mut left = word;
-    for item in items {
-        if left & 1 == 1 {
+    for (place, item) in items.iter().enumerate() {
+        if word >> place & 1 == 1 {
             sum = sum.plus(*item);
         }
-        left >>= 1;
     }
     Ok(sum)
 }

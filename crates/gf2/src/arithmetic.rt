@@ -7,10 +7,7 @@ ghost use Rattle.gf2.specs.Laws.{Ring, Derivation};
 pub fn degree(a: u32) -> Option<u32>
     ensures { elim result [ None ↦ a ≡ 0 | Some n ↦ Degree a n ] }
 {
-    if a == 0 {
-        return None;
-    }
-    Some(31 - a.leading_zeros())
+    a.checked_ilog2()
 }
 
 // The whole product, from the highest digit of a down.
@@ -38,7 +35,7 @@ pub fn derivative(a: u64) -> u64
     a >> 1 & EVEN
 }
 
-// A digit times b, without a branch.
+// A digit times b, without a branch. `product` has the same in 64 bits: a trait over both widths would be longer than the line.
 pub(crate) fn scaled(digit: u32, b: u32) -> u32
     ensures { digit < 2 → result ≡ digit * b }
 {

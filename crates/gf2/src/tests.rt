@@ -2,10 +2,7 @@ use crate::{Modulus, degree, derivative, product};
 use std::test::Fail;
 
 fn modulus(polynomial: u32) -> Result<Modulus, Fail> {
-    match Modulus::new(polynomial) {
-        Some(m) => Ok(m),
-        None => Err(Fail::new("a polynomial below 2")),
-    }
+    Modulus::new(polynomial).ok_or_else(|| Fail::new("a polynomial below 2"))
 }
 
 #[test]

@@ -4,7 +4,9 @@
 --   place_of q         == the cell that the refusal names, if it names one
 --   unless t q rest    == the refusal q where the test t fails, else what the questions after it give
 --   else_asked q rest  == the refusal of the first questions, or else that of the questions after them
+--   refused_or q a     == the refusal that q has, if it has one, else a
 --   Answers r q P      == r refuses with the refusal that q has, or q has none and r is a value that satisfies P
+--   Changes r q v u w  == r refuses with the refusal that q has, and v stays, as w shows, or q has none and w is u
 --   vector_refusal     == the questions to a number of cells and a vector, in their order
 --   polynomial_refusal == the question to a polynomial
 --   word_refusal       == the question to a word that is to be a state of so many cells
@@ -78,9 +80,17 @@ abbrev pub else_asked : Option Refusal → Option Refusal → Option Refusal
 else_asked None rest = rest
 else_asked (Some q) rest = Some q
 
+abbrev pub refused_or : {A : Type 0} → Option Refusal → A → Result A Refusal
+refused_or None a = Ok a
+refused_or (Some q) a = Err q
+
 abbrev pub Answers : {A : Type 0} → Result A Refusal → Option Refusal → (A → Type 0) → Type 0
 Answers (Ok x) q P = (q ≡ None) × P x
 Answers (Err e) q P = q ≡ Some e
+
+abbrev pub Changes : {V : Type 0} → Result (Unit {0}) Refusal → Option Refusal → V → V → V → Type 0
+Changes (Ok x) q before after is = (q ≡ None) × (is ≡ after)
+Changes (Err e) q before after is = (q ≡ Some e) × (is ≡ before)
 
 -- 1 to 31 cells? A vector below 2^cells?
 abbrev pub vector_refusal : ℕ → ℕ → Option Refusal

@@ -4,10 +4,12 @@
 
 pub mod refusal;
 pub mod ring;
+pub mod state;
 #[cfg(test)]
 mod tests;
 pub mod vector;
 
 pub use refusal::Refusal;
 pub use ring::Ring;
+pub use state::state_of;
 pub use vector::{RuleVector, polynomial_of};

@@ -1,10 +1,11 @@
 // The questions that calls ask, each by what is wrong where its answer is no.
-ghost use Rattle.std.specs.Prelude.{◌≡◌};
+ghost use Rattle.std.specs.Prelude.{◌≡◌, Some};
 ghost use Rattle.rings.specs.Questions.{number_of, place_of};
+ghost use Rattle.rings.specs.Texts.{refusal_text};
 
 use std::fmt;
 
-#[derive(Clone, Copy, PartialEq, Eq)]
+#[derive(Clone, Copy, Debug, PartialEq, Eq)]
 pub enum Refusal {
     // The polynomial is 0 or 1.
     PolynomialBelowTwo,
@@ -98,7 +99,7 @@ impl Refusal {
         }
     }
 
-    // The cell, counted from 1, that the refusal names, if it names one.
+    // The cell, counted from 1, that the refusal names, if it names one: a part of it and no conversion, as the number is its name.
     pub fn place(&self) -> Option<u32>
         ensures { result ≡ place_of self.now }
     {
@@ -109,9 +110,14 @@ impl Refusal {
     }
 }
 
-impl fmt::Debug for Refusal {
+impl fmt::Display for Refusal {
+    ghost output = { λ q. Some (refusal_text q) };
+
     fn fmt<W: fmt::Write>(&self, f: &mut fmt::Formatter<W>) -> fmt::Result {
         let number = self.number();
-        write!(f, "refused {number}")
+        match self.place() {
+            Some(cell) => write!(f, "refused {number} at cell {cell}"),
+            None => write!(f, "refused {number}"),
+        }
     }
 }

@@ -1,9 +1,10 @@
 // The ring of a rule vector.
-ghost use Rattle.std.specs.Prelude.{◌≡◌, ◌^◌, ◌<◌};
+ghost use Rattle.std.specs.Prelude.{◌≡◌, ◌^◌, ◌<◌, Some, decimal};
 ghost use Rattle.rings.specs.Questions.{Answers, vector_refusal};
 ghost use Rattle.rings.specs.Vectors.{polynomial_of, recurrence};
 
 use crate::{Refusal, RuleVector};
+use std::fmt;
 
 mod moves;
 
@@ -48,5 +49,15 @@ impl Ring {
         ensures { result ≡ self.now.state }
     {
         self.state
+    }
+}
+
+// A ring is told by its vector.
+impl fmt::Display for Ring {
+    ghost output = { λ r. Some (decimal r.vector.rules) };
+
+    fn fmt<W: fmt::Write>(&self, f: &mut fmt::Formatter<W>) -> fmt::Result {
+        let vector = self.vector.rules();
+        write!(f, "{vector}")
     }
 }

@@ -3,7 +3,7 @@ ghost use Rattle.std.specs.Prelude.{◌≡◌, ◌^◌, ◌≤◌};
 ghost use Rattle.rings.specs.Cells.{ring_next};
 ghost use Rattle.rings.specs.Questions.{Answers, word_refusal};
 
-use crate::{Refusal, Ring};
+use crate::{Refusal, Ring, state_of};
 
 impl Ring {
     // One clock: each cell takes the sum of its neighbours, and of itself under rule 150.
@@ -25,10 +25,7 @@ impl Ring {
         ensures after { Answers result (word_refusal self.old.vector.cells word) (λ _. self.new.state ≡ word) }
         ensures kept { 2 ^ self.old.vector.cells ≤ word → self.new.state ≡ self.old.state }
     {
-        if word >> self.vector.cells() != 0 {
-            return Err(Refusal::WordTooLarge);
-        }
-        self.state = word;
+        self.state = state_of(self.vector.cells(), word)?;
         Ok(())
     }
 }
