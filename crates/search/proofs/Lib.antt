@@ -1,11 +1,14 @@
 pub mod Identity
+pub mod Made
+pub mod Picked
 pub mod Words
 pub mod Parities
 pub mod Systems
 pub mod Spans
 pub mod Undone
 pub mod Completeness
+pub mod Obeyed
 pub mod Wanted
 pub mod Runs
-pub mod Pinned
+pub mod Steps
 pub mod Turns

@@ -1,10 +1,11 @@
 -- Additive maps by their values at the powers of x, and the words that a base and directions give.
-use Rattle.std.proofs.Common.{◌≡◌, ℕ, zero, suc, ◌+◌, ◌*◌, ◌/◌, ◌%◌, ◌^◌, ◌<◌, ◌≤◌, List, [], ◌∷◌, length, set, sym, refl, ap, ◌∙◌, subst, ap₂, mod-lt, mod-eq_of_lt, zero-lt-suc, mul_assoc, mul_comm as mul_comm', div-lt_iff_lt-mul, add_comm, one-mul, pow-suc, div-add-mod', zero-mul, add-one, arith, length-set, pow_pos}
+use Rattle.std.proofs.Common.{◌≡◌, ℕ, zero, suc, ◌+◌, ◌*◌, ◌/◌, ◌%◌, ◌^◌, ◌<◌, ◌≤◌, List, [], ◌∷◌, length, get_or, set, sym, refl, ap, ◌∙◌, subst, ap₂, mod-lt, mod-eq_of_lt, zero-lt-suc, mul_assoc, mul_comm as mul_comm', div-lt_iff_lt-mul, add_comm, one-mul, pow-suc, div-add-mod', zero-mul, add-one, arith, length-set, pow_pos}
 use lib.Arith.{lt-one, digits_lt}
 use lib.Pow.{mod-pow-add}
+use lib.Seq.{set-get_or}
 use lib.Bits.{bit_and, bit_xor, xor_zero_r, xor_shifted, xor_block, xor_lt, and_le_l}
 use Rattle.gf2.specs.Algebra.{product, derivative}
-use Rattle.gf2.proofs.Sums.{Additive, additive_zero, xor_left_comm, sums}
+use Rattle.gf2.proofs.Sums.{Additive, additive_zero, additive_digit, xor_left_comm, sums}
 use Rattle.gf2.proofs.Ring.{ring, mul_sum_l, mul_sum_r, mul_x_l, mul_one_l}
 use Rattle.gf2.proofs.Derivation.{derivative_additive}
 use Rattle.gf2.proofs.Division.{mul_below}
@@ -59,33 +60,19 @@ top d k t hd ht =
 parts : (y j : ℕ) → y ≡ bit_xor (y / 2 ^ j * 2 ^ j) (y % 2 ^ j)
 parts y j = sym (xor_shifted (y / 2 ^ j) j (y % 2 ^ j) (mod-lt y (pow_pos j)) ∙ div-add-mod' y (2 ^ j))
 
-additive_digit : (f : ℕ → ℕ) → Additive f → (d x : ℕ) → d < 2 → f (d * x) ≡ d * f x
-additive_digit f add zero x h = ap f (zero-mul x) ∙ additive_zero f add ∙ sym (zero-mul (f x))
-additive_digit f add (suc zero) x h = ap f (one-mul x) ∙ sym (one-mul (f x))
-additive_digit f add (suc (suc d)) x h = absurd (omega arith)
-
--- the columns up to j hold f at the powers of x
-pub record Columns (f : ℕ → ℕ) (j : ℕ) (xs : List ℕ) : Type 0 where
-  pub long : length xs ≡ 32
-  pub front : (y : ℕ) → y < 2 ^ j → chosen 0 bit_xor xs y ≡ f y
-
-pub columns_none : (f : ℕ → ℕ) → Additive f → (xs : List ℕ) → length xs ≡ 32 → Columns f 0 xs
-columns_none f add xs long =
-    record { long = long; front = λ y h. ap (chosen 0 bit_xor xs) (lt-one h) ∙ chosen_zero xs ∙ sym (ap f (lt-one h) ∙ additive_zero f add) }
-
-pub columns_more : (f : ℕ → ℕ) → Additive f → (j : ℕ) (xs : List ℕ) (x : ℕ) → j < 32 → x ≡ f (2 ^ j) → Columns f j xs → Columns f (j + 1) (set xs j x)
-columns_more f add j xs x few is c =
-    record {
-      long = length-set xs j x ∙ c.long;
-      front = λ y h.
-          let d = y / 2 ^ j in
-          let t = y % 2 ^ j in
-          let digit : d < 2 = (div-lt_iff_lt-mul (pow_pos j)).1 (subst (λ (z : ℕ). y < z) (ap (λ (n : ℕ). 2 ^ n) (add-one j) ∙ pow-suc 2 j ∙ mul_comm' (2 ^ j) 2) h) in
-          ap (chosen 0 bit_xor (set xs j x)) (sym (div-add-mod' y (2 ^ j)))
-          ∙ chosen_more xs j x d t digit (mod-lt y (pow_pos j)) (omega (arith, c.long))
-          ∙ ap₂ bit_xor (ap (λ (z : ℕ). d * z) is ∙ sym (additive_digit f add d (2 ^ j) digit)) (c.front t (mod-lt y (pow_pos j)))
-          ∙ sym (add (d * 2 ^ j) t) ∙ ap f (sym (parts y j));
-    }
+-- columns that hold f at the powers of x below x^j
+pub columns : (f : ℕ → ℕ) → Additive f → (xs : List ℕ) (j : ℕ) → j ≤ length xs → ((i : ℕ) → i < j → get_or xs i 0 ≡ f (2 ^ i)) → (y : ℕ) → y < 2 ^ j → chosen 0 bit_xor xs y ≡ f y
+columns f add xs zero few is y h = ap (chosen 0 bit_xor xs) (lt-one h) ∙ chosen_zero xs ∙ sym (ap f (lt-one h) ∙ additive_zero f add)
+columns f add xs (suc j) few is y h =
+    let d = y / 2 ^ j in
+    let t = y % 2 ^ j in
+    let digit : d < 2 = (div-lt_iff_lt-mul (pow_pos j)).1 (subst (λ (z : ℕ). y < z) (pow-suc 2 j ∙ mul_comm' (2 ^ j) 2) h) in
+    ap₂ (chosen 0 bit_xor) (sym (set-get_or xs j 0)) (sym (div-add-mod' y (2 ^ j)))
+    ∙ chosen_more xs j (get_or xs j 0) d t digit (mod-lt y (pow_pos j)) (omega arith)
+    ∙ ap₂ bit_xor
+    (ap (λ (z : ℕ). d * z) (is j (omega arith)) ∙ sym (additive_digit f add d (2 ^ j) digit))
+    (columns f add xs j (omega arith) (λ i l. is i (omega arith)) t (mod-lt y (pow_pos j)))
+    ∙ sym (add (d * 2 ^ j) t) ∙ ap f (sym (parts y j))
 
 -- ---- the image
 

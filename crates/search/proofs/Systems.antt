@@ -1,11 +1,8 @@
 -- Substitution: a sum of chosen expressions is the chosen bits of what they evaluate to, and adding an expression that
 -- is 0 at m changes nothing at m.
-use Rattle.std.proofs.Common.{◌≡◌, ℕ, zero, suc, ◌+◌, ◌*◌, ◌/◌, ◌%◌, ◌^◌, ◌<◌, ◌≤◌, ◌≢◌, List, [], ◌∷◌, ◌++◌, map, length, get_or, take, drop, set, replicate, sym, refl, ap, ◌∙◌, subst, ap₂, ⊎_elim, mod-lt, zero-lt-suc, mul_assoc, add_comm, pow-suc, arith, length-append, length-set, take-append-drop, get_or-set_other}
+use Rattle.std.proofs.Common.{◌≡◌, ℕ, zero, suc, ◌+◌, ◌*◌, ◌/◌, ◌%◌, ◌^◌, ◌<◌, List, [], ◌∷◌, ◌++◌, map, length, get_or, take, drop, set, sym, refl, ap, ◌∙◌, subst, ap₂, ⊎_elim, mod-lt, mod-eq_of_lt, zero-lt-suc, arith, length-append, take-append-drop}
 use lib.Bits.{bit_and, bit_xor, and_comm, and_mask, xor_zero_r}
 use lib.Count.{ones}
-use lib.Pow.{mod-pow-add}
-use lib.Seq.{set-get_or}
-use Rattle.std.proofs.lemmas.Nat.{one_shl}
 use Rattle.std.proofs.lemmas.List.{get_or_default, length-map}
 use Rattle.std.proofs.lemmas.List.Edits.{map_over_more}
 use Rattle.gf2.proofs.Orders.{order}
@@ -13,6 +10,7 @@ use Rattle.gf2.specs.Algebra.{Degree}
 use Rattle.generators.specs.Chosen.{taken, chosen}
 use Rattle.search.specs.declared.equations.Equation.{Equation}
 use Rattle.search.specs.Systems.{coefficient, value, plus, word_of, evaluate, row, equation, Solution, Solved, Unsolvable, substituted, replaced_by, replaced}
+use Rattle.search.proofs.Words.{word_of_digits}
 use Rattle.search.proofs.Parities.{parity, coefficient_below, parity_none, parity_sum_l, parity_sum_r, parity_more, xor_parity, ones_single, row_parity}
 
 abbrev none : Equation
@@ -90,66 +88,22 @@ module _ (k : ℕ) (e : Equation) (xs ys : List Equation) (i : ℕ) (within : i 
   pub replaced_set : bit_and (x.word / 2 ^ k) 1 ≡ 1 → set ys i (plus x e) ≡ map (replaced k e) (take (i + 1) xs) ++ drop (i + 1) xs
   replaced_set h = ap (λ (d : ℕ). set ys i (replaced_by d e x)) (sym (sym (and_mask (x.word / 2 ^ k) 1) ∙ h)) ∙ over
 
-  pub replaced_clear : (bit_and (x.word / 2 ^ k) 1 ≡ 1 → ⊥) → ys ≡ map (replaced k e) (take (i + 1) xs) ++ drop (i + 1) xs
+  pub replaced_clear : (bit_and (x.word / 2 ^ k) 1 ≡ 1 → ⊥) → set ys i x ≡ map (replaced k e) (take (i + 1) xs) ++ drop (i + 1) xs
   replaced_clear h =
       let low = coefficient_below x.word k in
       let clear : coefficient x.word k ≡ 0 = omega (arith, and_mask (x.word / 2 ^ k) 1, h) in
-      sym (set-get_or ys i none) ∙ ap (λ (d : ℕ). set ys i (replaced_by d e x)) (sym clear) ∙ over
+      ap (λ (d : ℕ). set ys i (replaced_by d e x)) (sym clear) ∙ over
 
--- ---- the unknowns
+-- ---- each bit a parameter of its own
 
--- a bit of a word set anew
-word_set : {A : Type 0} (f : A → ℕ) (xs : List A) (i : ℕ) (x d : A) → i < length xs →
-    word_of f (set xs i x) + f (get_or xs i d) * 2 ^ i ≡ word_of f xs + f x * 2 ^ i
-unfolding word_of
-word_set f [] i x d h = absurd (omega arith)
-word_set f (y ∷ xs) zero x d h = omega arith
-word_set f (y ∷ xs) (suc i) x d h =
-    let rest = word_set f xs i x d (omega arith) in
-    let old : f (get_or xs i d) * 2 ^ suc i ≡ f (get_or xs i d) * 2 ^ i * 2 = ap (λ (z : ℕ). f (get_or xs i d) * z) (pow-suc 2 i) ∙ sym (mul_assoc (f (get_or xs i d)) (2 ^ i) 2) in
-    let new : f x * 2 ^ suc i ≡ f x * 2 ^ i * 2 = ap (λ (z : ℕ). f x * z) (pow-suc 2 i) ∙ sym (mul_assoc (f x) (2 ^ i) 2) in
-    omega arith
-
--- bit i is parameter i below j, and there is nothing from j on
-pub record Unknowns (j : ℕ) (es : List Equation) : Type 0 where
-  pub long : length es ≡ 32
-  pub front : (y : ℕ) → evaluate es y ≡ y % 2 ^ j
-  pub rest : (i : ℕ) → j ≤ i → get_or es i none ≡ none
-
-nothing : (k y : ℕ) → evaluate (replicate k none) y ≡ 0
-unfolding word_of
-nothing zero y = refl
-nothing (suc k) y = ap₂ (λ (w d : ℕ). w * 2 + d) (nothing k y) (value_bit 0 y)
-
-empty : (k i : ℕ) → get_or (replicate k none) i none ≡ none
-empty zero i = refl
-empty (suc k) zero = refl
-empty (suc k) (suc i) = empty k i
-
-pub unknowns_none : Unknowns 0 (replicate 32 none)
-unknowns_none = record { long = refl; front = λ y. nothing 32 y ∙ omega arith; rest = λ i h. empty 32 i }
-
-pub unknowns_more : (j : ℕ) (es : List Equation) → j < 32 → Unknowns j es → Unknowns (j + 1) (set es j (record { word = 1 * 2 ^ j % 2 ^ 32; bit = 0 }))
-unknowns_more j es few u =
-    let e : Equation = record { word = 1 * 2 ^ j % 2 ^ 32; bit = 0 } in
-    let within : j < length es = omega (arith, u.long) in
-    record {
-      long = length-set es j e ∙ u.long;
-      front = λ y.
-          let turn = word_set (λ e. value e y) es j e none within in
-          let old : value (get_or es j none) y ≡ 0 = ap (λ (x : Equation). value x y) (u.rest j (omega arith)) ∙ value_bit 0 y in
-          let new : value e y ≡ coefficient y j =
-          ap (λ (w : ℕ). (ones (bit_and w y) + 0) % 2) (one_shl j 32 few) ∙ ap (λ (w : ℕ). (ones w + 0) % 2) (and_comm (2 ^ j) y)
-          ∙ ap (λ (d : ℕ). (d + 0) % 2) (ones_single y j) ∙ omega arith in
-          let none_left : value (get_or es j none) y * 2 ^ j ≡ 0 = ap (λ (d : ℕ). d * 2 ^ j) old ∙ omega arith in
-          let all : evaluate (set es j e) y ≡ coefficient y j * 2 ^ j + y % 2 ^ j =
-          omega (arith, turn, ap (λ (d : ℕ). d * 2 ^ j) new, u.front y) in
-          all ∙ sym (mod-pow-add y 1 j) ∙ ap (λ (n : ℕ). y % 2 ^ n) (add_comm 1 j);
-      rest = λ i h. let off : i ≢ j = λ e. omega arith in get_or-set_other es j i e none off ∙ u.rest i (omega arith);
-    }
-
-pub solved_first : (n : ℕ) (cs : List ℕ) (q : ℕ) (es : List Equation) → ((y : ℕ) → y < 2 ^ n → evaluate es y ≡ y) → Solved n cs q 0 es
-solved_first n cs q es back = record { complete = λ y h s. back y h; sound = λ m k h. absurd (omega arith) }
+pub parameters : (es : List Equation) → length es ≡ 32 → ((j : ℕ) → j < 32 → get_or es j none ≡ record { word = 2 ^ j; bit = 0 }) → (y : ℕ) → y < 2 ^ 32 → evaluate es y ≡ y
+parameters es long each y h =
+    word_of_digits (λ e. value e y) es none y
+    (λ j l.
+    let within : j < 32 = omega (arith, long) in
+    ap (λ (e : Equation). value e y) (each j within)
+    ∙ ap (λ (w : ℕ). (ones w + 0) % 2) (and_comm (2 ^ j) y) ∙ ap (λ (d : ℕ). (d + 0) % 2) (ones_single y j) ∙ omega arith)
+    ∙ ap (λ (n : ℕ). y % 2 ^ n) long ∙ mod-eq_of_lt h
 
 -- ---- the loop over the equations
 

@@ -1,5 +1,5 @@
 -- The recurrence backwards: from the last two polynomials of a vector its last rule, and the polynomial before them.
-use Rattle.std.proofs.Common.{◌≡◌, ℕ, zero, suc, ◌+◌, ◌*◌, ◌/◌, ◌%◌, ◌^◌, ◌<◌, ◌≤◌, sym, ap, ◌∙◌, subst, ap₂, one-mul, div-add-mod', zero-mul, div-one, add-one, arith, pow_pos, shr-shr}
+use Rattle.std.proofs.Common.{◌≡◌, ℕ, zero, suc, ◌+◌, ◌*◌, ◌/◌, ◌%◌, ◌^◌, ◌<◌, sym, ap, ◌∙◌, subst, ap₂, one-mul, div-add-mod', zero-mul, add-one, arith, pow_pos, shr-shr}
 use native.Mathlib.Nat.{div-eq_of_lt}
 use lib.Pow.{shr_le}
 use lib.Bits.{bit_and, bit_or, bit_xor, and_mask, or_shifted, xor_shr, xor_zero_r}
@@ -19,9 +19,6 @@ pub record Undone (v k above below read : ℕ) : Type 0 where
 pub undone_start : (n v p y : ℕ) → v < 2 ^ n → recurrence n v ≡ p → recurrence_from n v ≡ y → Undone v n p y 0
 unfolding recurrence
 undone_start n v p y h e f = record { above_is = sym e; below_is = sym f; read_is = sym (div-eq_of_lt h) }
-
-pub undone_end : (n v p y read : ℕ) → n ≤ 0 → Undone v n p y read → read ≡ v
-undone_end n v p y read h u = let none : n ≡ 0 = omega arith in u.read_is ∙ ap (λ (k : ℕ). v / 2 ^ k) none ∙ div-one v
 
 cancelled : (x c z : ℕ) → bit_xor (bit_xor (bit_xor x c) z) x ≡ bit_xor c z
 cancelled x c z = simp sums

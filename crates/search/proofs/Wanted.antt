@@ -1,102 +1,71 @@
--- The walk over the candidates: the best so far, and the pins of a vector one by one.
-use Rattle.std.proofs.Common.{◌≡◌, ℕ, ◌+◌, ◌/◌, ◌%◌, ◌^◌, ◌<◌, ◌≤◌, min, true, ◌&&◌, eqb, List, ◌∷◌, length, get_or, drop, Some, None, Option, sym, ap, ◌∙◌, subst, ⊎_elim, arith}
-use Rattle.std.proofs.lemmas.List.{drop_more, drop_all}
+-- The smallest of the candidates, and the vector that a word leads to.
+use Rattle.std.proofs.Common.{◌≡◌, ℕ, ◌<◌, ◌≤◌, Bool, true, false, inl, inr, List, [], ◌∷◌, Some, None, Option, sym, refl, ap, ◌∙◌, subst, ⊎_elim, arith}
+use Rattle.std.specs.Bool.{then_some}
+use Rattle.std.specs.List.{cons_option, range_with_len}
+use Rattle.std.specs.Option.{MatchOption}
 use Rattle.gf2.proofs.Orders.{order}
-use Rattle.rings.specs.Vectors.{recurrence, recurrence_from}
+use Rattle.rings.specs.Vectors.{recurrence_from}
 use Rattle.rings.proofs.Recurrence.{polynomial_recurrence}
 use Rattle.search.specs.declared.span.Span.{Span}
-use Rattle.search.specs.Lists.{fits, Of, Wanted, Sound, Candidate, NotAbove, Least}
+use Rattle.search.specs.Lists.{Of, Wanted, Sound, Candidate, NotAbove, Least}
 use Rattle.search.specs.Spans.{word_at, Complete}
 use Rattle.search.specs.Undoing.{Undoes}
+use Rattle.search.proofs.Picked.{In, in_range, Gave}
 
--- ---- pins, one cell after the other
-
-module _ (pins : List (Option ℕ)) (i left : ℕ) (within : i < length pins) where
-  pub pin_none : get_or pins i None ≡ None → fits (drop i pins) left ≡ fits (drop (i + 1) pins) (left / 2)
-  unfolding fits
-  pin_none e = ap (λ (ps : List (Option ℕ)). fits ps left) (drop_more pins i None within ∙ ap (λ (o : Option ℕ). o ∷ drop (i + 1) pins) e)
-
-  pub pin_some : (b : ℕ) → get_or pins i None ≡ Some b → fits (drop i pins) left ≡ (eqb (left % 2) b && fits (drop (i + 1) pins) (left / 2))
-  unfolding fits
-  pin_some b e = ap (λ (ps : List (Option ℕ)). fits ps left) (drop_more pins i None within ∙ ap (λ (o : Option ℕ). o ∷ drop (i + 1) pins) e)
-
-pub pins_end : (pins : List (Option ℕ)) (i left : ℕ) → length pins ≤ i → fits (drop i pins) left ≡ true
-unfolding fits
-pins_end pins i left h = ap (λ (ps : List (Option ℕ)). fits ps left) (drop_all i pins h)
-
--- ---- the best of the candidates below t
-
-pub record Best (F : ℕ → Type 0) (n : ℕ) (span : Span) (t : ℕ) (best : Option ℕ) : Type 0 where
-  pub sound : Sound F best
-  pub least : (v s : ℕ) → F v → s < t → recurrence_from n v ≡ word_at span s → NotAbove best v
-
-pub best_none : (F : ℕ → Type 0) (n : ℕ) (span : Span) → Best F n span 0 None
-best_none F n span = record { sound = tt; least = λ v s f h e. absurd (omega arith) }
-
-module _ (F : ℕ → Type 0) (n : ℕ) (span : Span) (t : ℕ) (best : Option ℕ) (b : Best F n span t best) where
-  pub best_same : Candidate F n (word_at span t) None → Best F n span (t + 1) best
-  best_same c =
-      record {
-        sound = b.sound;
-        least = λ v s f h e. ⊎_elim
-            (λ less. b.least v s f less e)
-            (λ from. let last : s ≡ t = omega arith in let none = c.complete v f (e ∙ ap (word_at span) last) in let z : ◌≡◌ {A = ℕ} 0 1 = cc in absurd (omega arith))
-            (order s t);
-      }
-
-either : (F : ℕ → Type 0) (a u r : ℕ) → r ≡ min a u → F a → F u → F r
-either F a u r e fa fu = ⊎_elim (λ less. let is : r ≡ a = omega arith in subst F (sym is) fa) (λ from. let is : r ≡ u = omega arith in subst F (sym is) fu) (order a u)
-
-lower_sound : (F : ℕ → Type 0) (best : Option ℕ) (u r : ℕ) → elim best as (λ _. Type 0) [ None ↦ r ≡ u | Some a ↦ r ≡ min a u ] → Sound F best → F u → F r
-lower_sound F None u r e s f = subst F (sym e) f
-lower_sound F (Some a) u r e s f = either F a u r e s f
-
-lower_least : (best : Option ℕ) (u r v : ℕ) → elim best as (λ _. Type 0) [ None ↦ r ≡ u | Some a ↦ r ≡ min a u ] → NotAbove best v → r ≤ v
-lower_least None u r v e h = absurd h
-lower_least (Some a) u r v e h = omega arith
-
-lower_new : (best : Option ℕ) (u r : ℕ) → elim best as (λ _. Type 0) [ None ↦ r ≡ u | Some a ↦ r ≡ min a u ] → r ≤ u
-lower_new None u r e = omega arith
-lower_new (Some a) u r e = omega arith
-
-pub best_lower : (F : ℕ → Type 0) (n : ℕ) (span : Span) (t : ℕ) (best : Option ℕ) → Best F n span t best → (u r : ℕ) → Candidate F n (word_at span t) (Some u)
-    → elim best as (λ _. Type 0) [ None ↦ r ≡ u | Some a ↦ r ≡ min a u ] → Best F n span (t + 1) (Some r)
-best_lower F n span t best b u r c is =
-    record {
-      sound = lower_sound F best u r is b.sound c.sound;
-      least = λ v s f h e. ⊎_elim
-          (λ less. lower_least best u r v is (b.least v s f less e))
-          (λ from. let last : s ≡ t = omega arith in let found = c.complete v f (e ∙ ap (word_at span) last) in let same : u ≡ v = cc in subst (λ (z : ℕ). r ≤ z) same (lower_new best u r is))
-          (order s t);
-    }
-
--- ---- all candidates
+-- ---- the smallest of the candidates
 
 module _ (n p : ℕ) (pins : List (Option ℕ)) (a : ℕ) (span : Span) (complete : Complete p n span) where
   abbrev F : ℕ → Type 0
   F = Wanted n p pins a
 
+  abbrev pub At : ℕ → Option ℕ → Type 0
+  At t r = Candidate F n (word_at span t) r
+
   among : (v : ℕ) → F v → ((t : ℕ) → t < span.words → recurrence_from n v ≡ word_at span t → ⊥) → ⊥
   among v f = complete v f.one.below (sym (polynomial_recurrence n v) ∙ f.one.polynomial)
 
-  least_of : (best : Option ℕ) → Best F n span span.words best → (v : ℕ) → F v → NotAbove best v
-  least_of None b v f = among v f (λ t h e. b.least v t f h e)
-  least_of (Some r) b v f = ⊎_elim (λ less. absurd (among v f (λ t h e. let low = b.least v t f h e in omega arith))) (λ from. from) (order v r)
+  sounds : (ts zs : List ℕ) → Gave At ts zs → (v : ℕ) → In v zs → F v
+  sounds [] zs g v i = absurd (subst (In v) g i)
+  sounds (t ∷ ts) zs g v i = here g.0 g.2.sound (subst (In v) g.4 i) (sounds ts g.1 g.3 v)
+    where
+      here : (o : Option ℕ) → Sound F o → In v (cons_option o g.1) → (In v g.1 → F v) → F v
+      here None s j later = later j
+      here (Some u) s j later = ⊎_elim (λ is. subst F (sym is) s) later j
 
-  pub best_all : (best : Option ℕ) → Best F n span span.words best → Least F best
-  best_all best b = record { sound = b.sound; least = least_of best b }
+  found : (ts zs : List ℕ) → Gave At ts zs → (v t : ℕ) → F v → In t ts → recurrence_from n v ≡ word_at span t → In v zs
+  found [] zs g v t f i e = absurd i
+  found (s ∷ ts) zs g v t f i e = subst (In v) (sym g.4) (⊎_elim (λ is. here g.0 (g.2.complete v f (e ∙ ap (word_at span) is))) (λ j. later g.0 (found ts g.1 g.3 v t f j e)) i)
+    where
+      here : (o : Option ℕ) → o ≡ Some v → In v (cons_option o g.1)
+      here o is = subst (λ (w : Option ℕ). In v (cons_option w g.1)) (sym is) (inl refl)
+
+      later : (o : Option ℕ) → In v g.1 → In v (cons_option o g.1)
+      later None j = j
+      later (Some u) j = inr j
+
+  pub least_of : (r : Option ℕ) (zs : List ℕ) → Gave At (range_with_len 0 span.words) zs → MatchOption r (zs ≡ []) (λ y. In y zs × ((v : ℕ) → In v zs → y ≤ v)) → Least F r
+  least_of r zs g m = record { sound = sound r m; least = least r m }
+    where
+      met : (v t : ℕ) → F v → t < span.words → recurrence_from n v ≡ word_at span t → In v zs
+      met v t f l e = found (range_with_len 0 span.words) zs g v t f (in_range span.words 0 t (omega arith) (omega arith)) e
+
+      sound : (r : Option ℕ) → MatchOption r (zs ≡ []) (λ y. In y zs × ((v : ℕ) → In v zs → y ≤ v)) → Sound F r
+      sound None m = tt
+      sound (Some y) m = sounds (range_with_len 0 span.words) zs g y m.0
+
+      least : (r : Option ℕ) → MatchOption r (zs ≡ []) (λ y. In y zs × ((v : ℕ) → In v zs → y ≤ v)) → (v : ℕ) → F v → NotAbove r v
+      least None m v f = among v f (λ t l e. subst (In v) m (met v t f l e))
+      least (Some y) m v f = ⊎_elim (λ less. absurd (among v f (λ t l e. let low = m.1 v (met v t f l e) in omega arith))) (λ from. from) (order v y)
 
 -- ---- the vector that a word leads to
 
-module _ (n p y n' p' y' r : ℕ) (same-n : n' ≡ n) (same-p : p' ≡ p) (same-y : y' ≡ y) (undoes : Undoes n' p' y' r) where
-  back : (v : ℕ) → Of n p v → recurrence_from n v ≡ y → r ≡ v
-  back v o e =
-      undoes v (subst (λ (k : ℕ). v < 2 ^ k) (sym same-n) o.below)
-      (ap (λ (k : ℕ). recurrence k v) same-n ∙ sym (polynomial_recurrence n v) ∙ o.polynomial ∙ sym same-p)
-      (ap (λ (k : ℕ). recurrence_from k v) same-n ∙ e ∙ sym same-y)
+pub undone : (n p y r : ℕ) → Undoes n p y r → (b : Bool) → elim b as (λ _. Type 0) [ true ↦ Of n p r | false ↦ Of n p r → ⊥ ] → Candidate (Of n p) n y (then_some b r)
+undone n p y r undoes b has = record { sound = sound b has; complete = λ v o e. found b has v o (undoes v o.below (sym (polynomial_recurrence n v) ∙ o.polynomial) e) }
+  where
+    sound : (b : Bool) → elim b as (λ _. Type 0) [ true ↦ Of n p r | false ↦ Of n p r → ⊥ ] → Sound (Of n p) (then_some b r)
+    sound true o = o
+    sound false h = tt
 
-  pub undone_some : Of n' p' r → Candidate (Of n p) n y (Some r)
-  undone_some o = record { sound = rw (same-n, same-p) at o; complete = λ v f e. ap Some (back v f e) }
-
-  pub undone_none : (Of n' p' r → ⊥) → Candidate (Of n p) n y None
-  undone_none h = record { sound = tt; complete = λ v f e. absurd (h (rw (same-n, same-p) (subst (Of n p) (sym (back v f e)) f))) }
+    found : (b : Bool) → elim b as (λ _. Type 0) [ true ↦ Of n p r | false ↦ Of n p r → ⊥ ] → (v : ℕ) → Of n p v → r ≡ v → then_some b r ≡ Some v
+    found true h v o e = ap Some e
+    found false h v o e = absurd (h (subst (Of n p) (sym e) o))

@@ -2,6 +2,7 @@
 --
 --   View              == the polynomial, the number of cells, a pin or none for each cell, the vectors given since the
 --                        start, and whether the search is running
+--   given_below n p pins from == the vectors given so far: none yet, or the fitting ones below a bound
 --   view s            == the view of a search
 --   fitting w         == the fitting list: the vectors of the polynomial that obey the pins, ascending
 --   Opened p w        == w is the view of a search on p that was just opened
@@ -9,7 +10,6 @@
 --   cell_refusal w cell others == the questions that a pin and its removal begin with, and then the others
 --   pin_refusal       == the questions to a pin, in their order; likewise unpin_refusal and next_refusal
 --   with_pin w cell o == w with the pin o for the cell
---   Changes r q w u w' == r refuses by q and w stays, as w' shows, or q has no refusal and w' is u
 --   Gives w v w'      == v is the vector of the fitting list after those given, and w' is w with v given too
 --   ended w           == w, running, with nothing more given
 --   GoesOn r w w'     == r is the next vector, or refuses where all are given, and w' is what the search is then
@@ -29,14 +29,18 @@ pub record View : Type 0 where
   pub given : List ℕ
   pub running : Bool
 
+abbrev pub given_below : ℕ → ℕ → List (Option ℕ) → Option ℕ → List ℕ
+given_below n p pins None = []
+given_below n p pins (Some from) = fitting_below n p pins from
+
 abbrev pub view : Search → View
 view s =
     record {
       polynomial = s.candidates.modulus.polynomial;
       cells = s.candidates.modulus.degree;
       pins = s.pins;
-      given = fitting_below s.candidates.modulus.degree s.candidates.modulus.polynomial s.pins s.from;
-      running = s.running;
+      given = given_below s.candidates.modulus.degree s.candidates.modulus.polynomial s.pins s.from;
+      running = is_some s.from;
     }
 
 abbrev pub fitting : View → List ℕ
@@ -73,10 +77,6 @@ next_refusal w = unless (nat_lt (length w.given) (length (fitting w))) NoVectorL
 abbrev pub with_pin : View → ℕ → Option ℕ → View
 with_pin w cell pin =
     record { polynomial = w.polynomial; cells = w.cells; pins = slice_set w.pins (cell - 1) pin; given = w.given; running = w.running }
-
-abbrev pub Changes : Result (Unit {0}) Refusal → Option Refusal → View → View → View → Type 0
-Changes (Ok x) q before after is = (q ≡ None) × (is ≡ after)
-Changes (Err e) q before after is = (q ≡ Some e) × (is ≡ before)
 
 pub record Gives (w : View) (v : ℕ) (w' : View) : Type 0 where
   pub rest : List ℕ

@@ -1,14 +1,13 @@
 // The candidates for the vectors of a polynomial, and the smallest one that is wanted.
-ghost use Rattle.std.specs.Prelude.{◌≡◌, ◌≤◌, min, true, false, Some, None};
+ghost use Rattle.std.specs.Prelude.{◌≡◌, ◌≤◌, true, false, Some, None};
 ghost use Rattle.search.specs.Lists.{Of, Wanted, Candidate, Least};
 ghost use Rattle.search.specs.Spans.{word_at, Complete};
 ghost use Rattle.search.specs.Undoing.{Undoes};
 
 use crate::pins::{Pins, obeyed};
-use crate::solve::solve;
 use crate::span::Span;
-use crate::system::columns;
-use gf2::{Modulus, product};
+use crate::system::System;
+use gf2::Modulus;
 use rings::polynomial_of;
 
 // A span in which each vector of the polynomial has the polynomial of all its cells but the last.
@@ -25,7 +24,7 @@ impl Candidates {
     {
         Candidates {
             modulus,
-            span: solutions(modulus.polynomial(), modulus.degree()),
+            span: solutions(modulus),
         }
     }
 
@@ -39,82 +38,54 @@ impl Candidates {
     pub(crate) fn least(&self, pins: &Pins, from: u32) -> Option<u32>
         ensures { Least (Wanted self.now.modulus.degree self.now.modulus.polynomial pins.now from) result }
     {
-        let mut best = None;
-        for t in 0..self.span.words() {
-            if let Some(vector) = self.wanted(pins, from, t) {
-                best = Some(lower(best, vector));
-            }
-        }
-        best
+        (0..self.span.words())
+            .filter_map(|t| self.wanted(pins, from, t))
+            .min()
     }
 
     // The vector at t, if it is wanted.
     fn wanted(&self, pins: &Pins, from: u32, t: u32) -> Option<u32>
         ensures { Candidate (Wanted self.now.modulus.degree self.now.modulus.polynomial pins.now from) self.now.modulus.degree (word_at self.now.span t) result }
     {
-        match self.vector(t) {
-            Some(vector) if vector >= from && obeyed(pins, vector) => Some(vector),
-            _ => None,
-        }
+        self.vector(t)
+            .filter(|vector| *vector >= from && obeyed(pins, *vector))
     }
 
     // The vector that the word at t leads to, if the recurrence gives the polynomial for it.
     fn vector(&self, t: u32) -> Option<u32>
         ensures { Candidate (Of self.now.modulus.degree self.now.modulus.polynomial) self.now.modulus.degree (word_at self.now.span t) result }
     {
-        let p = self.modulus.polynomial();
-        let cells = self.modulus.degree();
-        let vector = undo(p, self.span.word(t), cells);
-        if has_polynomial(vector, cells, p) {
-            Some(vector)
-        } else {
-            None
-        }
+        let vector = undo(self.modulus, self.span.word(t));
+        has_polynomial(self.modulus, vector).then_some(vector)
     }
 }
 
-// The words y that satisfy the identity with p: no other belongs to a vector of p.
-fn solutions(p: u32, cells: u32) -> Span
-    requires { cells ≤ 31 }
-    ensures { Complete p cells result }
+// The words y that satisfy the identity with the polynomial: no other belongs to a vector of it.
+fn solutions(modulus: Modulus) -> Span
+    ensures { Complete modulus.polynomial modulus.degree result }
 {
-    match solve(&columns(p, cells), product(p, p) ^ 1, cells) {
-        Some(expressions) => Span::of(&expressions, cells),
+    match System::of(modulus).solve() {
+        Some(expressions) => Span::of(&expressions, modulus),
         None => Span::empty(),
     }
 }
 
-// Whether the recurrence gives p for the vector.
-fn has_polynomial(vector: u32, cells: u32, p: u32) -> bool
-    requires { (1 ≤ cells) × (cells ≤ 31) }
-    ensures { elim result [ true ↦ Of cells p vector | false ↦ Of cells p vector → ⊥ ] }
+// Whether the recurrence gives the polynomial for the vector.
+fn has_polynomial(modulus: Modulus, vector: u32) -> bool
+    ensures { elim result [ true ↦ Of modulus.degree modulus.polynomial vector | false ↦ Of modulus.degree modulus.polynomial vector → ⊥ ] }
 {
-    match polynomial_of(cells, vector) {
-        Ok(found) => found == p,
-        Err(_) => false,
-    }
+    polynomial_of(modulus.degree(), vector).is_ok_and(|found| found == modulus.polynomial())
 }
 
-// The smaller of the best so far, if there is one, and the vector.
-fn lower(best: Option<u32>, vector: u32) -> u32
-    ensures { elim best [ None ↦ result ≡ vector | Some b ↦ result ≡ min b vector ] }
-{
-    match best {
-        Some(b) => b.min(vector),
-        None => vector,
-    }
-}
-
-// The rules of a vector from its last two polynomials, p and y, the last cell first: the division of p by y leaves the
-// polynomial before them, and its quotient is x plus the rule.
-fn undo(p: u32, y: u32, cells: u32) -> u32
-    requires { cells ≤ 31 }
-    ensures { Undoes cells p y result }
+// The rules of a vector from its last two polynomials, that of the modulus and y, the last cell first: the division of the
+// one by the other leaves the polynomial before them, and its quotient is x plus the rule.
+fn undo(modulus: Modulus, y: u32) -> u32
+    ensures { Undoes modulus.degree modulus.polynomial y result }
 {
     let mut vector = 0;
-    let mut above = p;
+    let mut above = modulus.polynomial();
     let mut below = y;
-    for k in (0..cells).rev() {
+    for k in (0..modulus.degree()).rev() {
         let rest = above ^ below << 1;
         let rule = rest >> k & 1;
         let own = if rule == 1 { below } else { 0 };

@@ -9,6 +9,7 @@ ghost use Rattle.search.specs.EquationLaws.{made_of};
 use generators::Summand;
 
 // A word, which bits are added, and the bit that they add up to. As an expression: the sum of these bits and that bit.
+// The bit is a number, and no bool: callers could give any, and a bool would ask more of them.
 #[derive(Clone, Copy)]
 pub struct Equation {
     pub word: u32,

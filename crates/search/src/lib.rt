@@ -3,9 +3,9 @@
 
 mod candidates;
 pub mod equations;
+mod expressions;
 mod pins;
 pub mod search;
-mod solve;
 mod span;
 mod system;
 #[cfg(test)]

@@ -1,18 +1,16 @@
 // A search: a polynomial, the pins, and how far the run has come.
-ghost use Rattle.std.specs.Prelude.{◌≡◌, ◌^◌, ◌≤◌, false};
+ghost use Rattle.std.specs.Prelude.{◌^◌, ◌≤◌, unwrap_or};
 
 use crate::candidates::Candidates;
 use crate::pins::Pins;
 
 mod calls;
 
-// The fitting vectors below from have been given.
+// None where the search does not run; else the fitting vectors below from have been given.
 #[derive(Clone, Copy)]
 pub struct Search {
     candidates: Candidates,
     pins: Pins,
-    from: u32,
-    running: bool,
-    ghost reached: { from ≤ 2 ^ candidates.modulus.degree },
-    ghost fresh: { running ≡ false → from ≡ 0 },
+    from: Option<u32>,
+    ghost reached: { unwrap_or from 0 ≤ 2 ^ candidates.modulus.degree },
 }

@@ -3,11 +3,12 @@ ghost use Rattle.std.specs.Prelude.{◌≡◌, ℕ, ◌^◌, ◌<◌, ◌≤◌}
 ghost use Rattle.search.specs.Systems.{evaluate as evaluated};
 ghost use Rattle.search.specs.Spans.{word_at, Covers};
 
-use crate::Equation;
-use crate::solve::{UNKNOWNS, evaluate};
+use crate::expressions::{Expressions, UNKNOWNS};
 use generators::chosen_sum;
+use gf2::Modulus;
 
-// The words base + the directions that t chooses, for t below their number.
+// The words base + the directions that t chooses, for t below their number. The directions stand first in an array of fixed
+// size, as the core has no heap and a search is copied.
 #[derive(Clone, Copy)]
 pub struct Span {
     base: u32,
@@ -27,15 +28,15 @@ impl Span {
         }
     }
 
-    pub(crate) fn of(expressions: &[Equation; UNKNOWNS], cells: u32) -> Span
-        requires { cells ≤ 31 }
-        ensures { (y : ℕ) → y < 2 ^ cells → Covers result (evaluated expressions.now y) }
+    // What the expressions give for the parameters of polynomials below the degree.
+    pub(crate) fn of(expressions: &Expressions, modulus: Modulus) -> Span
+        ensures { (y : ℕ) → y < 2 ^ modulus.degree → Covers result (evaluated expressions.now.bits y) }
     {
-        let base = evaluate(expressions, 0);
+        let base = expressions.evaluate(0);
         let mut directions = [0; UNKNOWNS];
         let mut dimension = 0u32;
-        for j in 0..cells {
-            let direction = evaluate(expressions, 1 << j) ^ base;
+        for j in 0..modulus.degree() {
+            let direction = expressions.evaluate(1 << j) ^ base;
             if direction != 0 {
                 directions[dimension as usize] = direction;
                 dimension += 1;
@@ -57,9 +58,6 @@ impl Span {
     pub(crate) fn word(&self, t: u32) -> u32
         ensures { result ≡ word_at self.now t }
     {
-        let Ok(sum) = chosen_sum(&self.directions, t) else {
-            unreachable();
-        };
-        self.base ^ sum
+        self.base ^ chosen_sum(&self.directions, t).unwrap()
     }
 }

@@ -1,8 +1,8 @@
 // The calls of a search.
 ghost use Rattle.std.specs.Prelude.{◌≡◌, ◌-◌, length, Some, None};
-ghost use Rattle.rings.specs.Questions.{Answers, polynomial_refusal};
+ghost use Rattle.rings.specs.Questions.{Answers, Changes, polynomial_refusal};
 ghost use Rattle.search.specs.Identity.{Identity};
-ghost use Rattle.search.specs.Views.{view, fitting, Opened, cell_refusal, pin_refusal, unpin_refusal, with_pin, Changes, GoesOn, rewound};
+ghost use Rattle.search.specs.Views.{view, fitting, Opened, cell_refusal, pin_refusal, unpin_refusal, with_pin, GoesOn, rewound};
 
 use super::Search;
 use crate::candidates::Candidates;
@@ -14,19 +14,24 @@ const MAX_VALUE: u32 = 1;
 
 impl Search {
     // A search without pins, on any polynomial from 2 on.
+    #[tactic(auto, using(crate::proofs::Identity::identity))]
     pub fn open(polynomial: u32) -> Result<Search, Refusal>
         ensures value { Answers result (polynomial_refusal polynomial) (λ s. Opened polynomial (view s)) }
         ensures identity { Identity }
     {
-        let Some(modulus) = Modulus::new(polynomial) else {
-            return Err(Refusal::PolynomialBelowTwo);
-        };
+        let modulus = Modulus::new(polynomial).ok_or(Refusal::PolynomialBelowTwo)?;
         Ok(Search {
             candidates: Candidates::of(modulus),
             pins: [None; MAX_CELLS],
-            from: 0,
-            running: false,
+            from: None,
         })
+    }
+
+    // The degree of the polynomial.
+    pub fn cells(&self) -> u32
+        ensures { result ≡ (view self.now).cells }
+    {
+        self.candidates.cells()
     }
 
     // Fixes a cell, counted from 1, to 0 or 1.
@@ -37,8 +42,7 @@ impl Search {
         if value > MAX_VALUE {
             return Err(Refusal::PinValue);
         }
-        let pin = self.pins[place];
-        if pin.is_some() {
+        if self.pins[place].is_some() {
             return Err(Refusal::CellPinned);
         }
         self.pins[place] = Some(value);
@@ -50,11 +54,7 @@ impl Search {
         ensures { Changes result (unpin_refusal (view self.old) cell) (view self.old) (with_pin (view self.old) cell None) (view self.new) }
     {
         let place = self.place(cell)?;
-        let pin = self.pins[place];
-        if pin.is_none() {
-            return Err(Refusal::CellNotPinned);
-        }
-        self.pins[place] = None;
+        self.pins[place].take().ok_or(Refusal::CellNotPinned)?;
         Ok(())
     }
 
@@ -62,6 +62,7 @@ impl Search {
     pub fn count(&self) -> u32
         ensures { result ≡ length (fitting (view self.now)) }
     {
+        // A loop: an iterator's count asks that it ends, which neither `successors` nor `from_fn` promises, so that proof stays open.
         let mut from = 0;
         let mut count = 0;
         while let Some(vector) = self.candidates.least(&self.pins, from) {
@@ -75,11 +76,12 @@ impl Search {
     pub fn next(&mut self) -> Result<u32, Refusal>
         ensures { GoesOn result (view self.old) (view self.new) }
     {
-        self.running = true;
-        let Some(vector) = self.candidates.least(&self.pins, self.from) else {
-            return Err(Refusal::NoVectorLeft);
-        };
-        self.from = vector + 1;
+        let from = self.from.unwrap_or(0);
+        // It runs from here on, even if no vector is left.
+        self.from = Some(from);
+        let next = self.candidates.least(&self.pins, from);
+        let vector = next.ok_or(Refusal::NoVectorLeft)?;
+        self.from = Some(vector + 1);
         Ok(vector)
     }
 
@@ -87,18 +89,17 @@ impl Search {
     pub fn rewind(&mut self)
         ensures { view self.new ≡ rewound (view self.old) }
     {
-        self.from = 0;
-        self.running = false;
+        self.from = None;
     }
 
     // Where the pin of a cell stands, while the search does not run.
     fn place(&self, cell: u32) -> Result<usize, Refusal>
         ensures { Answers result (cell_refusal (view self.now) cell None) (λ i. i ≡ cell - 1) }
     {
-        if self.running {
+        if self.from.is_some() {
             return Err(Refusal::SearchRunning);
         }
-        if cell == 0 || cell > self.candidates.cells() {
+        if cell == 0 || cell > self.cells() {
             return Err(Refusal::NoSuchCell);
         }
         Ok(cell as usize - 1)

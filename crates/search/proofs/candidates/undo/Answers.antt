@@ -1,12 +1,12 @@
 use Rattle.std.proofs.Common.{◌≡◌, ℕ, suc, ◌-◌, ◌*◌, ◌/◌, ◌%◌, ◌^◌, sym, ap, ◌∙◌, subst, lt_of_lt_of_le, one-mul, zero-mul, arith, pow_mono}
 use lib.Bits.{bit_and, bit_xor}
 use Rattle.gf2.proofs.Words.{digit_below}
-use Rattle.search.proofs.Undone.{Undone, undone_start, undone_end, undone_next}
+use Rattle.search.proofs.Undone.{Undone, undone_start, undone_next}
 use Rattle.search.proofs.candidates.undo.Goals as goal
 use Rattle.search.proofs.candidates.undo.Goals.{then-rule-eq1, else-rule-eq1}
 
 pub loop-k-init : goal.loop-k-init
-loop-k-init c v h e f = undone_start c.args.cells v c.args.p c.args.y h e f
+loop-k-init c v h e f = rw (c.degree-k.ensures.value, c.polynomial-above.ensures) (undone_start c.args.modulus.degree v c.args.modulus.polynomial c.args.y h e f)
 
 pub loop-k-preserved : goal.loop-k-preserved
 loop-k-preserved c v h e f =
@@ -23,9 +23,4 @@ loop-k-preserved c v h e f =
           let none : rule ≡ 0 = omega (arith, low, w.if-rule-eq1.false) in
           w.own-is ∙ sym (ap (λ (d : ℕ). d * l.below) none ∙ zero-mul l.below)
     ] in
-    undone_next v k l.above l.below l.vector (omega arith) (lt_of_lt_of_le h (pow_mono c.requires)) u c.if-rule-eq1.own own
-
-pub returns : goal.returns
-returns c v h e f =
-    let l = c.loop-k in
-    undone_end l.k v l.above l.below l.vector c.loop-k-test.false (l.invariant v h e f)
+    undone_next v k l.above l.below l.vector (omega arith) (lt_of_lt_of_le h (pow_mono c.args.modulus.high)) u c.if-rule-eq1.own own

@@ -5,5 +5,5 @@ use Rattle.search.proofs.candidates.undo.Given as goal
 
 abbrev pub invariant-loop-k : goal.invariant-loop-k
 invariant-loop-k l =
-    (v : ℕ) → v < 2 ^ l.cells → recurrence l.cells v ≡ l.p → recurrence_from l.cells v ≡ l.y
+    (v : ℕ) → v < 2 ^ l.fn.modulus.degree → recurrence l.fn.modulus.degree v ≡ l.fn.modulus.polynomial → recurrence_from l.fn.modulus.degree v ≡ l.y
     → Undone v l.k l.above l.below l.vector

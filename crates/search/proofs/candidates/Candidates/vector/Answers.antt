@@ -1,10 +1,11 @@
-use Rattle.search.proofs.Wanted.{undone_some, undone_none}
+use Rattle.std.proofs.Common.{ℕ, subst}
+use Rattle.search.specs.Lists.{Of, Candidate}
+use Rattle.search.proofs.Wanted.{undone}
 use Rattle.search.proofs.candidates.Candidates.vector.Goals as goal
 
-pub returns-then-has_polynomial : goal.returns-then-has_polynomial
-returns-then-has_polynomial c =
-    undone_some _ _ _ _ _ _ _ c.degree-cells.ensures.value c.polynomial-p.ensures c.word.ensures c.undo-vector.ensures c.if-has_polynomial.ensures
-
-pub returns-else-has_polynomial : goal.returns-else-has_polynomial
-returns-else-has_polynomial c =
-    undone_none _ _ _ _ _ _ _ c.degree-cells.ensures.value c.polynomial-p.ensures c.word.ensures c.undo-vector.ensures c.if-has_polynomial.ensures
+pub returns : goal.returns
+returns c =
+    let m = c.args.self.now.modulus in
+    subst (λ (y : ℕ). Candidate (Of m.degree m.polynomial) m.degree y c.then_some.result) c.word.ensures
+    (rw c.then_some.ensures
+    (undone m.degree m.polynomial c.word.result c.undo-vector.result c.undo-vector.ensures c.has_polynomial.result c.has_polynomial.ensures))

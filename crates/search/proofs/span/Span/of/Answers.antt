@@ -7,12 +7,12 @@ use Rattle.search.proofs.span.Span.of.Goals as goal
 use Rattle.search.proofs.span.Span.of.Goals.{then-direction-ne0, else-direction-ne0}
 
 pub loop-j-init : goal.loop-j-init
-loop-j-init c = spans_none c.args.expressions.now c.evaluate-base.result c.evaluate-base.ensures _ refl
+loop-j-init c = spans_none c.args.expressions.now.bits c.evaluate-base.result c.evaluate-base.ensures _ refl
 
 pub loop-j-preserved : goal.loop-j-preserved
 loop-j-preserved c =
     let l = c.loop-j in
-    let es = c.args.expressions.now in
+    let es = c.args.expressions.now.bits in
     let base = c.evaluate-base.result in
     let at_zero = c.evaluate-base.ensures in
     let direction : ℕ = bit_xor c.evaluate.result base in
@@ -28,7 +28,7 @@ loop-j-preserved c =
 pub returns : goal.returns
 returns c y h =
     let l = c.loop-j in
-    let whole : l.j ≡ c.args.cells = omega arith in
+    let whole : l.j ≡ c.args.modulus.degree = omega arith in
     let found = l.invariant.covers y in
     let all : y % 2 ^ l.j ≡ y = ap (λ (n : ℕ). y % 2 ^ n) whole ∙ mod-eq_of_lt h in
-    (found.0, rw (one_shl l.dimension 32 (omega (arith, l.invariant.few))) found.1, ap (evaluate c.args.expressions.now) (sym all) ∙ found.2)
+    (found.0, rw (one_shl l.dimension 32 (omega (arith, l.invariant.few))) found.1, ap (evaluate c.args.expressions.now.bits) (sym all) ∙ found.2)
