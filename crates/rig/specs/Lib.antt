@@ -1,2 +1,4 @@
 pub mod Rigs
+pub mod Held
 pub mod Runs
+pub mod Texts

@@ -1,8 +1,7 @@
 // A rig stands over one generator, which only the rig's calls change, and tells which pattern the generator shows at
 // which clock after the last accepted seed.
-ghost use Rattle.std.specs.Prelude.{◌≡◌, ℕ, ◌+◌, ◌^◌, ◌≤◌, Some, None};
-ghost use Rattle.rings.specs.Questions.{Answers};
-ghost use Rattle.rig.specs.Rigs.{view, Stands, seed_refusal, seeded, move_refusal, loaded, moved, Changes};
+ghost use Rattle.std.specs.Prelude.{ℕ, ◌^◌, ◌≤◌};
+ghost use Rattle.rig.specs.Rigs.{Stands};
 
 use generators::{Generator, jump};
 use rings::Refusal;
@@ -10,15 +9,22 @@ use rings::Refusal;
 const LIMIT: u64 = 1 << 62;
 
 #[derive(Drop)]
-pub struct Rig<G> {
+pub struct Rig<G: Generator> {
     generator: G,
-    // The last accepted seed; none before the first.
+    // The last accepted seed; none before the first. The clock is 0 until then: in one option with the seed it would be taken out
+    // and put back by each move.
     seed: Option<u32>,
     clock: u64,
     ghost within: { clock ≤ 2 ^ 62 },
+    ghost stands: { Stands (record { meaning = G.meaning generator; seed = seed; clock = clock; state = G.state generator }) },
 }
 
 impl<G: Generator> Rig<G> {
+    ghost use Rattle.std.specs.Prelude.{◌≡◌, ℕ, ◌+◌, Some, None, Ok};
+    ghost use Rattle.rings.specs.Questions.{Answers, Changes};
+    ghost use Rattle.rig.specs.Rigs.{seed_refusal, seeded, move_refusal, loaded, moved, shown_at};
+    ghost use Rattle.rig.specs.Held.{view};
+
     // Unseeded, over the generator as it is.
     pub fn new(generator: G) -> Rig<G>
         ensures { (result.generator ≡ generator) × (result.seed ≡ None) × (result.clock ≡ 0) }
@@ -32,9 +38,7 @@ impl<G: Generator> Rig<G> {
 
     // Loads a word and sets the clock to 0.
     pub fn seed(&mut self, word: u32) -> Result<(), Refusal>
-        ensures same { G.meaning self.new.generator ≡ G.meaning self.old.generator }
-        ensures after { Changes result (seed_refusal (G.meaning self.old.generator).cells word) (view self.old.seed self.old.clock (G.state self.old.generator)) (loaded word) (view self.new.seed self.new.clock (G.state self.new.generator)) }
-        ensures stands { Stands (G.meaning self.old.generator) (view self.old.seed self.old.clock (G.state self.old.generator)) → Stands (G.meaning self.old.generator) (view self.new.seed self.new.clock (G.state self.new.generator)) }
+        ensures { Changes result (seed_refusal (view self.old).meaning.cells word) (view self.old) (loaded (view self.old) word) (view self.new) }
     {
         if word == 0 {
             return Err(Refusal::SeedZero);
@@ -46,10 +50,9 @@ impl<G: Generator> Rig<G> {
     }
 
     // One clock on.
+    #[tactic(auto, using(crate::proofs::Moves::iterate_one))]
     pub fn step(&mut self) -> Result<(), Refusal>
-        ensures same { G.meaning self.new.generator ≡ G.meaning self.old.generator }
-        ensures after { Changes result (move_refusal self.old.seed self.old.clock 1) (view self.old.seed self.old.clock (G.state self.old.generator)) (moved (G.meaning self.old.generator) (view self.old.seed self.old.clock (G.state self.old.generator)) 1) (view self.new.seed self.new.clock (G.state self.new.generator)) }
-        ensures stands { Stands (G.meaning self.old.generator) (view self.old.seed self.old.clock (G.state self.old.generator)) → Stands (G.meaning self.old.generator) (view self.new.seed self.new.clock (G.state self.new.generator)) }
+        ensures { Changes result (move_refusal (view self.old).seed (view self.old).clock 1) (view self.old) (moved (view self.old) 1) (view self.new) }
     {
         let clock = self.clock_after(1)?;
         self.generator.step();
@@ -59,9 +62,7 @@ impl<G: Generator> Rig<G> {
 
     // As many clocks on as single steps would be, and no slower for being many.
     pub fn jump(&mut self, length: u64) -> Result<(), Refusal>
-        ensures same { G.meaning self.new.generator ≡ G.meaning self.old.generator }
-        ensures after { Changes result (move_refusal self.old.seed self.old.clock length) (view self.old.seed self.old.clock (G.state self.old.generator)) (moved (G.meaning self.old.generator) (view self.old.seed self.old.clock (G.state self.old.generator)) length) (view self.new.seed self.new.clock (G.state self.new.generator)) }
-        ensures stands { Stands (G.meaning self.old.generator) (view self.old.seed self.old.clock (G.state self.old.generator)) → Stands (G.meaning self.old.generator) (view self.new.seed self.new.clock (G.state self.new.generator)) }
+        ensures { Changes result (move_refusal (view self.old).seed (view self.old).clock length) (view self.old) (moved (view self.old) length) (view self.new) }
     {
         let clock = self.clock_after(length)?;
         jump(&mut self.generator, length);
@@ -69,36 +70,34 @@ impl<G: Generator> Rig<G> {
         Ok(())
     }
 
-    // The pattern that the generator shows at this clock.
+    // The pattern that the generator shows at this clock, which is that after so many single steps from the seed.
     pub fn show(&self) -> Result<u32, Refusal>
-        ensures { Answers result (seeded self.now.seed) (λ p. p ≡ (G.meaning self.now.generator).shown (G.state self.now.generator)) }
+        ensures state { Answers result (seeded (view self.now).seed) (λ p. p ≡ (view self.now).meaning.shown (view self.now).state) }
+        ensures steps { (w : ℕ) → (view self.now).seed ≡ Some w → result ≡ Ok (shown_at (view self.now).meaning w (view self.now).clock) }
     {
-        self.asked()?;
+        self.seeded()?;
         Ok(self.generator.shown())
     }
 
     pub fn clock(&self) -> Result<u64, Refusal>
-        ensures { Answers result (seeded self.now.seed) (λ c. c ≡ self.now.clock) }
+        ensures { Answers result (seeded (view self.now).seed) (λ c. c ≡ (view self.now).clock) }
     {
-        self.asked()?;
+        self.seeded()?;
         Ok(self.clock)
     }
 
-    // Seeded?
-    fn asked(&self) -> Result<(), Refusal>
-        ensures { Answers result (seeded self.now.seed) (λ _. Unit {0}) }
+    // The last accepted seed, if there is one.
+    fn seeded(&self) -> Result<u32, Refusal>
+        ensures { Answers result (seeded (view self.now).seed) (λ w. (view self.now).seed ≡ Some w) }
     {
-        match self.seed {
-            Some(_) => Ok(()),
-            None => Err(Refusal::NotSeeded),
-        }
+        self.seed.ok_or(Refusal::NotSeeded)
     }
 
     // The clock that many steps on, if the rig is seeded and the limit not passed.
     fn clock_after(&self, length: u64) -> Result<u64, Refusal>
-        ensures { Answers result (move_refusal self.now.seed self.now.clock length) (λ c. c ≡ self.now.clock + length) }
+        ensures { Answers result (move_refusal (view self.now).seed (view self.now).clock length) (λ c. c ≡ (view self.now).clock + length) }
     {
-        self.asked()?;
+        self.seeded()?;
         if length > LIMIT - self.clock {
             return Err(Refusal::ClockPastLimit);
         }

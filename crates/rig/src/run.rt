@@ -1,14 +1,16 @@
-// Runs of a rig: any list of calls, and the answer to each.
-ghost use Rattle.std.specs.Prelude.{◌≡◌, ◌∷◌, IfOk};
+// Runs of a rig: any list of calls, and what came of each.
+ghost use Rattle.std.specs.Prelude.{◌≡◌, ◌∷◌, Some, IfOk};
 ghost use Rattle.runs.specs.Runs.{Obeys};
-ghost use Rattle.rig.specs.Rigs.{view};
-ghost use Rattle.rig.specs.Runs.{RigLaw, Tied, told};
+ghost use Rattle.rig.specs.Held.{view};
+ghost use Rattle.rig.specs.Runs.{RigLaw, Tied};
+ghost use Rattle.rig.specs.Texts.{answer_text};
 
 use crate::Rig;
 use generators::Generator;
 use rings::Refusal;
 use runs::{Performer, perform_all};
 use std::alloc::{AllocError, Global};
+use std::fmt;
 
 #[derive(Clone, Copy)]
 pub enum Call {
@@ -19,34 +21,39 @@ pub enum Call {
     Clock,
 }
 
-#[derive(Clone, Copy)]
+#[derive(Clone, Copy, Debug, PartialEq, Eq)]
 pub enum Answer {
     // A seed, a step or a jump was accepted.
     Done,
     // The pattern that is shown.
     Pattern(u32),
     Clock(u64),
-    Refused(Refusal),
 }
 
-impl<G: Generator> Performer<Call, Answer> for Rig<G> {
-    ghost law = { λ r. RigLaw (G.Generator.meaning r.generator) };
+impl fmt::Display for Answer {
+    ghost output = { λ a. Some (answer_text a) };
 
-    ghost tied = { λ r h. Tied (G.Generator.meaning r.generator) (view r.seed r.clock (G.Generator.state r.generator)) h };
+    fn fmt<W: fmt::Write>(&self, f: &mut fmt::Formatter<W>) -> fmt::Result {
+        match self {
+            Answer::Done => write!(f, "done"),
+            Answer::Pattern(pattern) => write!(f, "{pattern}"),
+            Answer::Clock(clock) => write!(f, "{clock}"),
+        }
+    }
+}
 
-    fn perform(&mut self, call: Call) -> Answer {
+impl<G: Generator> Performer<Call, Result<Answer, Refusal>> for Rig<G> {
+    ghost law = { λ r. RigLaw (view r).meaning };
+
+    ghost tied = { λ r h. Tied (view r) h };
+
+    fn perform(&mut self, call: Call) -> Result<Answer, Refusal> {
         match call {
-            Call::Seed(word) => outcome(self.seed(word)),
-            Call::Step => outcome(self.step()),
-            Call::Jump(length) => outcome(self.jump(length)),
-            Call::Show => match self.show() {
-                Ok(pattern) => Answer::Pattern(pattern),
-                Err(refusal) => Answer::Refused(refusal),
-            },
-            Call::Clock => match self.clock() {
-                Ok(clock) => Answer::Clock(clock),
-                Err(refusal) => Answer::Refused(refusal),
-            },
+            Call::Seed(word) => self.seed(word).map(|()| Answer::Done),
+            Call::Step => self.step().map(|()| Answer::Done),
+            Call::Jump(length) => self.jump(length).map(|()| Answer::Done),
+            Call::Show => self.show().map(Answer::Pattern),
+            Call::Clock => self.clock().map(Answer::Clock),
         }
     }
 }
@@ -56,18 +63,9 @@ pub fn run<G: Generator + Drop>(
     heap: Global,
     generator: G,
     calls: &[Call],
-) -> Result<Vec<Answer>, AllocError>
+) -> Result<Vec<Result<Answer, Refusal>>, AllocError>
     ensures { IfOk result (λ answers. Obeys (RigLaw (G.meaning generator)) calls.now answers.items) }
 {
     let mut rig = Rig::new(generator);
     perform_all(heap, &mut rig, calls)
-}
-
-fn outcome(done: Result<(), Refusal>) -> Answer
-    ensures { result ≡ told done }
-{
-    match done {
-        Ok(()) => Answer::Done,
-        Err(refusal) => Answer::Refused(refusal),
-    }
 }

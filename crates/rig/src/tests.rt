@@ -1,7 +1,7 @@
 use crate::run::run;
 use crate::{Answer, Call, Rig};
 use generators::{Doubler, Generator, Register, Tap};
-use rings::Ring;
+use rings::{Refusal, Ring};
 use std::process::Abort;
 use std::test::Fail;
 
@@ -34,18 +34,16 @@ fn runs_answer_each_call(rt: HostRuntime) -> Result<(), Fail> {
         Call::Clock,
     ];
     let answers = run(rt.alloc(), Ring::new(5, 30)?, &calls)?;
-    let mut numbers = [0u64; 7];
-    for (place, answer) in answers.iter().enumerate() {
-        if place < 7 {
-            numbers[place] = match answer {
-                Answer::Done => 0,
-                Answer::Pattern(pattern) => u64::from(*pattern),
-                Answer::Clock(clock) => *clock,
-                Answer::Refused(refusal) => u64::from(refusal.number()),
-            };
-        }
-    }
-    assert_eq!(rt; numbers, [13, 12, 11, 0, 0, 25, 4]);
+    let expected = [
+        Err(Refusal::NotSeeded),
+        Err(Refusal::SeedZero),
+        Err(Refusal::WordTooLarge),
+        Ok(Answer::Done),
+        Ok(Answer::Done),
+        Ok(Answer::Pattern(25)),
+        Ok(Answer::Clock(4)),
+    ];
+    assert_eq!(rt; answers.as_slice(), &expected[..]);
     Ok(())
 }
 

@@ -11,8 +11,7 @@ use Rattle.runs.specs.Runs.{History, history, Right}
 use Rattle.search.specs.Lists.{from_on, has, vectors_below, full_list, fits, fitting_list}
 use Rattle.search.specs.Views.{fitting}
 use Rattle.service.specs.declared.searches.Call.{Call}
-use Rattle.service.specs.declared.searches.Answer.{Answer}
-use Rattle.service.specs.Searches.{pins_left, given, view_after, answer_by, SearchLaw}
+use Rattle.service.specs.Searches.{Answered, pins_left, given, view_after, answer_by, SearchLaw}
 use Rattle.service.specs.Examples.{Example, listed, answered, shown, Shows, Holds, table, Examples}
 use Rattle.service.proofs.Answered.{right_by}
 
@@ -40,26 +39,26 @@ list_is p n = kept_alike (has n p) (λ v. eqb (recurrence n v) p) (λ v. ap (λ 
 
 -- numbers, lists of numbers, and answers
 abbrev Outcome : Type 0
-Outcome = List ℕ × List (List ℕ) × List Answer
+Outcome = List ℕ × List (List ℕ) × List Answered
 
 module _ (p n : ℕ) (vs : List ℕ) where
-  abbrev fitting_after : History Call Answer → List ℕ
+  abbrev fitting_after : History Call Answered → List ℕ
   fitting_after h = filter (fits (pins_left h)) vs
 
   -- the first ones of the fitting list before each call, as many as were given, and the answer to the call
-  abbrev firsts : History Call Answer → List (List ℕ)
+  abbrev firsts : History Call Answered → List (List ℕ)
   firsts [] = []
   firsts (e ∷ h) = take (length (given h)) (fitting_after h) ∷ firsts h
 
-  abbrev answers_by : History Call Answer → List Answer
+  abbrev answers_by : History Call Answered → List Answered
   answers_by [] = []
   answers_by (e ∷ h) = answer_by (fitting_after h) (view_after p n h) e.0 ∷ answers_by h
 
-abbrev givens : History Call Answer → List (List ℕ)
+abbrev givens : History Call Answered → List (List ℕ)
 givens [] = []
 givens (e ∷ h) = given h ∷ givens h
 
-abbrev told : History Call Answer → List Answer
+abbrev told : History Call Answered → List Answered
 told [] = []
 told (e ∷ h) = e.1 ∷ told h
 
@@ -81,11 +80,11 @@ expected (shown m w ps) = (ps, [], [])
 -- ---- a row for which they are the same holds
 
 module _ (p n : ℕ) (is : full_list n p ≡ list_of p n) where
-  fitting_is : (h : History Call Answer) → fitting (view_after p n h) ≡ fitting_after p n (list_of p n) h
+  fitting_is : (h : History Call Answered) → fitting (view_after p n h) ≡ fitting_after p n (list_of p n) h
   unfolding fitting_list
   fitting_is h = ap (filter (fits (pins_left h))) is
 
-  right_rows : (h : History Call Answer) → firsts p n (list_of p n) h ≡ givens h → answers_by p n (list_of p n) h ≡ told h → Right (SearchLaw p n) h
+  right_rows : (h : History Call Answered) → firsts p n (list_of p n) h ≡ givens h → answers_by p n (list_of p n) h ≡ told h → Right (SearchLaw p n) h
   right_rows [] e f = tt
   right_rows (x ∷ h) e f =
       (right_by (view_after p n h) (fitting_after p n (list_of p n) h) (fitting_is h) (head_same e) x.0 x.1 (head_same f), right_rows h (tail_same e) (tail_same f))

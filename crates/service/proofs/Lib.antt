@@ -1,4 +1,3 @@
-pub mod Histories
 pub mod Given
 pub mod Openings
 pub mod Answered

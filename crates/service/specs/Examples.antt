@@ -9,7 +9,7 @@
 --   register_37         == the register of the polynomial 37
 --   table               == all rows
 --   Examples            == every row of the table holds
-use Rattle.std.specs.Prelude.{◌≡◌, ℕ, suc, List, [], ◌∷◌}
+use Rattle.std.specs.Prelude.{◌≡◌, ℕ, suc, List, [], ◌∷◌, Ok, Err}
 use Rattle.std.specs.List.{AllByRecursion}
 use Rattle.gf2.specs.Algebra.{Degree}
 use Rattle.rings.specs.declared.refusal.Refusal.TheVariants.{NoVectorLeft}
@@ -21,13 +21,12 @@ use Rattle.runs.specs.Runs.{Obeys}
 use Rattle.search.specs.Lists.{full_list}
 use Rattle.service.specs.declared.searches.Call.{Call}
 use Rattle.service.specs.declared.searches.Call.TheVariants.{Pin, Count, Next}
-use Rattle.service.specs.declared.searches.Answer.{Answer}
 use Rattle.service.specs.declared.searches.Answer.TheVariants as answer
-use Rattle.service.specs.Searches.{SearchLaw}
+use Rattle.service.specs.Searches.{Answered, SearchLaw}
 
 pub data Example : Type 0 where
   listed : (polynomial cells : ℕ) → List ℕ → Example
-  answered : (polynomial cells : ℕ) → List Call → List Answer → Example
+  answered : (polynomial cells : ℕ) → List Call → List Answered → Example
   shown : (m : Meaning) → (seed : ℕ) → List ℕ → Example
 
 abbrev pub Shows : Meaning → ℕ → ℕ → List ℕ → Type 0
@@ -57,7 +56,7 @@ table =
     ∷ listed 67 6 (6 ∷ 24 ∷ [])
     ∷ listed 131 7 (77 ∷ 89 ∷ [])
     ∷ listed 121 6 (4 ∷ 8 ∷ 55 ∷ 59 ∷ [])
-    ∷ answered 121 6 (Pin 1 1 ∷ Count ∷ Next ∷ Next ∷ Next ∷ []) (answer.Done ∷ answer.Count 2 ∷ answer.Vector 55 ∷ answer.Vector 59 ∷ answer.Refused NoVectorLeft ∷ [])
+    ∷ answered 121 6 (Pin 1 1 ∷ Count ∷ Next ∷ Next ∷ Next ∷ []) (Ok answer.Done ∷ Ok (answer.Count 2) ∷ Ok (answer.Vector 55) ∷ Ok (answer.Vector 59) ∷ Err NoVectorLeft ∷ [])
     ∷ shown ring_30 1 (1 ∷ 2 ∷ 7 ∷ 11 ∷ 25 ∷ 6 ∷ [])
     ∷ shown register_37 1 (1 ∷ 2 ∷ 4 ∷ 9 ∷ 18 ∷ [])
     ∷ shown (doubled ring_30) 1 (1 ∷ 7 ∷ 25 ∷ [])

@@ -1,3 +1,4 @@
 pub mod Searches
+pub mod Texts
 pub mod Promises
 pub mod Examples

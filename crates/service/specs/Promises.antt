@@ -9,7 +9,8 @@
 --   Promise p cs m ds o    == a search on p answers the calls cs, a rig over the generator m answers the calls ds, and each
 --                             vector given makes a ring, all as the laws say; the outcome o holds answers and rings
 --   Keeps p cs m ds r      == r is such an outcome, or refuses p, or there was no memory
-use Rattle.std.specs.Prelude.{◌≡◌, ℕ, ◌^◌, ◌<◌, List, [], ◌∷◌, ◌++◌, Some, None, Ok, Err, vec_items, Result}
+use Rattle.std.specs.Prelude.{◌≡◌, ℕ, ◌^◌, ◌<◌, List, Some, None, Ok, Err, vec_items, Result, filter_map, IfSome}
+use Rattle.std.specs.List.{AllZip}
 use Rattle.gf2.specs.Algebra.{Degree}
 use Rattle.rings.specs.declared.ring.Ring.{Ring}
 use Rattle.rings.specs.Cells.{ring_next}
@@ -19,30 +20,21 @@ use Rattle.runs.specs.Runs.{Obeys}
 use Rattle.rig.specs.Runs.{RigLaw}
 use Rattle.rig.specs.declared.run.Call as rig-call
 use Rattle.service.specs.declared.searches.Call.{Call}
-use Rattle.service.specs.declared.searches.Answer.{Answer}
-use Rattle.service.specs.declared.searches.Answer.TheVariants as answer
 use Rattle.service.specs.declared.promise.Outcome.{Outcome}
 use Rattle.service.specs.declared.promise.Failure.{Failure}
 use Rattle.service.specs.declared.promise.Failure.TheVariants.{Refused, NoMemory}
-use Rattle.service.specs.Searches.{given_by, SearchLaw}
+use Rattle.service.specs.Searches.{Answered, given_by, SearchLaw}
 
-abbrev pub vectors : List Answer → List ℕ
-vectors [] = []
-vectors (a ∷ rs) = given_by a ++ vectors rs
+abbrev pub vectors : List Answered → List ℕ
+vectors rs = filter_map given_by rs
 
 -- the vector that an answer gives, if it gives one, is a vector of n cells
-abbrev pub Within : ℕ → Answer → Type 0
-Within n answer.Done = Unit {0}
-Within n (answer.Count k) = Unit {0}
-Within n (answer.Vector v) = v < 2 ^ n
-Within n (answer.Refused q) = Unit {0}
+abbrev pub Within : ℕ → Answered → Type 0
+Within n a = IfSome (given_by a) (λ v. v < 2 ^ n)
 
 -- a ring of n cells for each vector
 abbrev pub Made : ℕ → List ℕ → List Ring → Type 0
-Made n [] [] = Unit {0}
-Made n [] (r ∷ rs) = ⊥
-Made n (v ∷ vs) [] = ⊥
-Made n (v ∷ vs) (r ∷ rs) = (r.vector.cells ≡ n) × (r.vector.rules ≡ v) × Made n vs rs
+Made n vs rs = AllZip (λ v r. (r.vector.cells ≡ n) × (r.vector.rules ≡ v)) vs rs
 
 pub record RingOf (p n v : ℕ) (r : Ring) : Type 0 where
   pub cells : r.vector.cells ≡ n
@@ -51,10 +43,7 @@ pub record RingOf (p n v : ℕ) (r : Ring) : Type 0 where
   pub lawful : Lawful (plain r.polynomial r.vector.cells (ring_next r.vector.cells r.vector.rules))
 
 abbrev pub Rings : ℕ → ℕ → List ℕ → List Ring → Type 0
-Rings p n [] [] = Unit {0}
-Rings p n [] (r ∷ rs) = ⊥
-Rings p n (v ∷ vs) [] = ⊥
-Rings p n (v ∷ vs) (r ∷ rs) = RingOf p n v r × Rings p n vs rs
+Rings p n vs rs = AllZip (RingOf p n) vs rs
 
 pub record Promise (p : ℕ) (cs : List Call) (m : Meaning) (ds : List rig-call.Call) (o : Outcome) : Type 0 where
   pub accepted : polynomial_refusal p ≡ None
