@@ -1,4 +1,1 @@
-pub mod Cuts
-pub mod Values
-pub mod Texts
-pub mod Patterns
+pub mod Degrees

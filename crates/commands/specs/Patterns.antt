@@ -1,34 +1,25 @@
 -- What the commands for service engineers ask for: the pattern that a generator must show at a clock.
 --
---   else_asked q r             == the refusal q if there is one, else r: the questions of r come after those of q
 --   start_refusal n w c        == the questions to a seed w and a clock c of a generator of n cells, in their order
---   shown_at m w c             == what it shows c single steps after the seed w
 --   ring_refusal n v w c       == the questions to a ring, its seed and its clock
 --   ring_meaning n v l         == the ring of n cells with the vector v, under the layers l
 --   top_bit p                  == the place of the highest bit of a word, the degree of a polynomial
 --   register_refusal p w c     == the questions to a register, its seed and its clock
 --   register_meaning p l       == the register of the polynomial p, under the layers l
-use Rattle.std.specs.Prelude.{ℕ, ◌-◌, Some, None, Option}
+use Rattle.std.specs.Prelude.{ℕ, ◌-◌, Some, Option}
 use Rattle.std.specs.Int.Count.{count_leading_zeros}
 use Rattle.rings.specs.declared.refusal.Refusal.{Refusal}
 use Rattle.rings.specs.Cells.{ring_next}
-use Rattle.rings.specs.Questions.{vector_refusal, polynomial_refusal}
+use Rattle.rings.specs.Questions.{else_asked, vector_refusal, polynomial_refusal}
 use Rattle.rings.specs.Vectors.{polynomial_of}
-use Rattle.generators.specs.Generators.{Meaning, plain, iterate}
+use Rattle.generators.specs.Generators.{Meaning, plain}
 use Rattle.generators.specs.Piles.{piled}
 use Rattle.generators.specs.Registers.{register_next}
 use Rattle.rig.specs.Rigs.{seed_refusal, move_refusal}
 use Rattle.commands.specs.declared.command.Layers.{Layers}
 
-abbrev pub else_asked : Option Refusal → Option Refusal → Option Refusal
-else_asked None r = r
-else_asked (Some q) r = Some q
-
 abbrev pub start_refusal : ℕ → ℕ → ℕ → Option Refusal
 start_refusal n w c = else_asked (seed_refusal n w) (move_refusal (Some w) 0 c)
-
-abbrev pub shown_at : Meaning → ℕ → ℕ → ℕ
-shown_at m w c = m.shown (iterate m.next c w)
 
 abbrev pub ring_refusal : ℕ → ℕ → ℕ → ℕ → Option Refusal
 ring_refusal n v w c = else_asked (vector_refusal n v) (start_refusal n w c)

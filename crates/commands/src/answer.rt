@@ -1,14 +1,9 @@
 // The line that answers a command.
 ghost use Rattle.std.specs.Prelude.{◌≡◌, ◌++◌, IfOk, string_bytes, codes};
-ghost use Rattle.rings.specs.Questions.{Answers};
-ghost use Rattle.commands.specs.Commands.{answer_line, refusal_text, reply_of, missed_text};
-ghost use Rattle.commands.specs.Patterns.{start_refusal, shown_at, ring_refusal, ring_meaning, register_refusal, register_meaning};
+ghost use Rattle.commands.specs.Replies.{answer_line, reply_of, missed_text, expected_of};
 
-use crate::Command;
-use crate::command::{Layers, Name};
-use generators::{Generator, Pile, Register};
-use rig::Rig;
-use rings::{Refusal, Ring, polynomial_of};
+use crate::{Command, Name};
+use rings::polynomial_of;
 use std::alloc::{AllocError, Global};
 
 // The answer to a line, without a line feed; number is the line's, for one that is not understood.
@@ -20,10 +15,7 @@ pub fn answer_line(heap: Global, number: u64, line: &[u8]) -> Result<Vec<u8>, Al
             let reply = command.reply(heap)?;
             echoed(heap, line, reply.as_bytes())
         }
-        Err(name) => {
-            let text = missed(heap, number, name)?;
-            Ok(text.into_bytes())
-        }
+        Err(name) => missed(heap, number, expected(name)),
     }
 }
 
@@ -37,60 +29,30 @@ impl Command {
             Command::Pattern {
                 cells,
                 vector,
-                seed,
-                clock,
-                layers,
-            } => ring_pattern(*cells, *vector, *seed, *clock, *layers),
-            Command::Register {
-                polynomial,
-                seed,
-                clock,
-                layers,
-            } => register_pattern(*polynomial, *seed, *clock, *layers),
+                moment,
+            } => moment.ring_pattern(*cells, *vector),
+            Command::Register { polynomial, moment } => moment.register_pattern(*polynomial),
         };
+        // What would print either, `replies::told::Told`, stands above this crate.
         match asked {
             Ok(number) => number.to_string(heap),
-            Err(refusal) => refused(heap, refusal),
+            Err(refusal) => refusal.to_string(heap),
         }
     }
 }
 
-fn ring_pattern(
-    cells: u32,
-    vector: u32,
-    seed: u32,
-    clock: u64,
-    layers: Layers,
-) -> Result<u32, Refusal>
-    ensures { Answers result (ring_refusal cells vector seed clock) (λ p. p ≡ shown_at (ring_meaning cells vector layers) seed clock) }
+// What a line should look like: the form that it misses, or else any command.
+fn expected(name: Option<Name>) -> &'static str
+    ensures { result.now ≡ expected_of name }
 {
-    let ring = Ring::new(cells, vector)?;
-    pattern_of(Pile::over(ring, layers.doublers, layers.taps), seed, clock)
-}
-
-fn register_pattern(polynomial: u32, seed: u32, clock: u64, layers: Layers) -> Result<u32, Refusal>
-    ensures { Answers result (register_refusal polynomial seed clock) (λ p. p ≡ shown_at (register_meaning polynomial layers) seed clock) }
-{
-    let register = Register::new(polynomial)?;
-    pattern_of(
-        Pile::over(register, layers.doublers, layers.taps),
-        seed,
-        clock,
-    )
-}
-
-// What a generator shows so many clocks after a seed.
-fn pattern_of<G: Generator + Drop>(generator: G, seed: u32, clock: u64) -> Result<u32, Refusal>
-    ensures { Answers result (start_refusal (G.meaning generator).cells seed clock) (λ p. p ≡ shown_at (G.meaning generator) seed clock) }
-{
-    let mut rig = Rig::new(generator);
-    rig.seed(seed)?;
-    rig.jump(clock)?;
-    rig.show()
+    match name {
+        Some(name) => name.usage(),
+        None => "a command: multiply, pattern, register",
+    }
 }
 
 // The command as given, and the reply.
-fn echoed(heap: Global, line: &[u8], reply: &[u8]) -> Result<Vec<u8>, AllocError>
+pub fn echoed(heap: Global, line: &[u8], reply: &[u8]) -> Result<Vec<u8>, AllocError>
     ensures { IfOk result (λ v. v.items ≡ line.now ++ (codes ": " ++ reply.now)) }
 {
     let mut bytes = Vec::new(heap);
@@ -100,19 +62,10 @@ fn echoed(heap: Global, line: &[u8], reply: &[u8]) -> Result<Vec<u8>, AllocError
     Ok(bytes)
 }
 
-fn missed(heap: Global, number: u64, name: Name) -> Result<String, AllocError>
-    ensures { IfOk result (λ s. string_bytes s ≡ missed_text number name) }
+// That the line of this number is not understood.
+pub fn missed(heap: Global, number: u64, expected: &str) -> Result<Vec<u8>, AllocError>
+    ensures { IfOk result (λ v. v.items ≡ missed_text number expected.now) }
 {
-    let usage = name.usage();
-    format!(in heap; "line {number}: not understood, expected {usage}")
-}
-
-fn refused(heap: Global, refusal: Refusal) -> Result<String, AllocError>
-    ensures { IfOk result (λ s. string_bytes s ≡ refusal_text refusal) }
-{
-    let number = refusal.number();
-    match refusal.place() {
-        Some(cell) => format!(in heap; "refused {number} at cell {cell}"),
-        None => format!(in heap; "refused {number}"),
-    }
+    let text = format!(in heap; "line {number}: not understood, expected {expected}")?;
+    Ok(text.into_bytes())
 }

@@ -3,10 +3,12 @@
 
 pub mod answer;
 pub mod command;
-pub mod numbers;
+pub mod name;
+pub mod parsing;
+pub mod patterns;
 #[cfg(test)]
 mod tests;
-pub mod words;
 
-pub use answer::answer_line;
-pub use command::{Command, Name};
+pub use answer::{answer_line, echoed, missed};
+pub use command::{Command, Layers, Moment};
+pub use name::Name;

@@ -1,46 +1,11 @@
-use crate::answer_line;
-use crate::numbers::number;
-use crate::words::Words;
+use crate::{answer_line, echoed, missed};
 use std::alloc::Global;
 use std::test::Fail;
-
-#[test]
-fn words_of_a_command(rt: HostRuntime) {
-    let mut words = Words::new(b"multiply  6 24");
-    for word in [&b"multiply"[..], &b"6"[..], &b"24"[..]] {
-        assert_eq!(rt; words.next_word(), Some(word));
-    }
-    assert_eq!(rt; words.next_word(), None);
-}
-
-#[test]
-fn lines_with_no_word(rt: HostRuntime) {
-    assert_eq!(rt; Words::new(b"").next_word(), None);
-    assert_eq!(rt; Words::new(b"   ").next_word(), None);
-}
-
-#[test]
-fn numbers_of_words(rt: HostRuntime) {
-    assert_eq!(rt; number(b"0"), Some(0));
-    assert_eq!(rt; number(b"007"), Some(7));
-    assert_eq!(rt; number(b"18446744073709551615"), Some(u64::MAX));
-    assert_eq!(rt;
-        number(b"18446744073709551616"),
-        Some(u64::MAX),
-        "saturates"
-    );
-    for word in [&b""[..], &b"-1"[..], &b"1x"[..]] {
-        assert_eq!(rt; number(word), None);
-    }
-}
 
 // The whole line that answers a line, as text.
 fn answered(heap: Global, line: &[u8]) -> Result<String, Fail> {
     let bytes = answer_line(heap, 3, line)?;
-    match String::from_utf8(bytes) {
-        Ok(text) => Ok(text),
-        Err(_) => Err(Fail::new("the answer is no text")),
-    }
+    String::from_utf8(bytes).map_err(|_| Fail::new("the answer is no text"))
 }
 
 #[test]
@@ -112,6 +77,19 @@ fn answers_to_pattern_and_register(rt: HostRuntime) -> Result<(), Fail> {
     assert_eq!(rt;
         answered(heap, b"register 1 1 3")?.as_str(),
         "register 1 1 3: refused 1"
+    );
+    Ok(())
+}
+
+#[test]
+fn parts_of_answers(rt: HostRuntime) -> Result<(), Fail> {
+    let heap = rt.alloc();
+    let answer = echoed(heap, b"multiply 6 24", b"67")?;
+    assert_eq!(rt; answer.as_slice(), &b"multiply 6 24: 67"[..]);
+    let answer = missed(heap, 4, "multiply CELLS VECTOR")?;
+    assert_eq!(rt;
+        answer.as_slice(),
+        &b"line 4: not understood, expected multiply CELLS VECTOR"[..]
     );
     Ok(())
 }

@@ -11,8 +11,9 @@ use Rattle.rings.specs.declared.refusal.Refusal.{Refusal}
 use Rattle.rings.specs.Questions.{else_asked, polynomial_refusal}
 use Rattle.search.specs.Views.{View, fitting, pin_refusal, with_pin}
 use Rattle.requests.specs.declared.call.Pin.{Pin}
-use Rattle.replies.specs.Patterns.{top_bit}
-use Rattle.replies.specs.Texts.{said, joined}
+use Rattle.commands.specs.Patterns.{top_bit}
+use Rattle.commands.specs.Replies.{said}
+use Rattle.replies.specs.Texts.{joined}
 
 abbrev pub fresh_search : ℕ → View
 fresh_search p = record { polynomial = p; cells = top_bit p; pins = replicate 31 None; given = []; running = false }

@@ -3,7 +3,6 @@
 
 pub mod answer;
 mod outcomes;
-mod patterns;
 mod pinned;
 #[cfg(test)]
 mod tests;

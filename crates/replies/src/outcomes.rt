@@ -1,15 +1,20 @@
 // Runs of calls, and what came of them.
-ghost use Rattle.std.specs.Prelude.{◌≡◌, IfOk, string_bytes};
-ghost use Rattle.replies.specs.Outcomes.{search_calls, rig_calls, run_text as text_of_run, outcome_text as text_of_outcome};
+ghost use Rattle.std.specs.Prelude.{◌≡◌, map, IfOk, string_bytes, codes};
+ghost use Rattle.service.specs.Promises.{Keeps};
+ghost use Rattle.replies.specs.Outcomes.{search_calls, rig_calls, register_of, run_text as text_of_run, outcome_text as text_of_outcome};
+ghost use Rattle.replies.specs.Texts.{answered_text, joined, ShownBy};
 
 use crate::told::{Told, joined};
 use generators::Register;
 use requests::AnyCall;
 use rig::Call as RigCall;
+use rings::Refusal;
 use service::{Call as SearchCall, Failure, Outcome, perform};
 use std::alloc::{AllocError, Global};
+use std::fmt::Display;
 
 // The answers of a search on the polynomial and of a rig over its register, and the rings that came of them.
+#[tactic(auto, using(crate::proofs::Ran::ran))]
 pub(crate) fn run_text(
     heap: Global,
     polynomial: u32,
@@ -17,44 +22,69 @@ pub(crate) fn run_text(
 ) -> Result<String, AllocError>
     ensures { IfOk result (λ s. string_bytes s ≡ text_of_run polynomial calls.now) }
 {
-    let register = match Register::new(polynomial) {
-        Ok(register) => register,
-        Err(refusal) => return refusal.text(heap),
-    };
-    let (search, rig) = parted(heap, calls)?;
-    match perform(
+    match performed(heap, polynomial, calls) {
+        Ok(outcome) => outcome_text(heap, &outcome),
+        Err(Failure::Refused(refusal)) => refusal.to_string(heap),
+        Err(Failure::NoMemory) => Err(AllocError),
+    }
+}
+
+// What comes of the calls.
+#[tactic(auto, using(crate::proofs::Ran::register_is))]
+fn performed(heap: Global, polynomial: u32, calls: &[AnyCall]) -> Result<Outcome, Failure>
+    ensures { Keeps polynomial (search_calls calls.now) (register_of polynomial) (rig_calls calls.now) result }
+{
+    let register = Register::new(polynomial)?;
+    let search = search_calls(heap, calls)?;
+    let rig = rig_calls(heap, calls)?;
+    perform(
         heap,
         polynomial,
         search.as_slice(),
         register,
         rig.as_slice(),
-    ) {
-        Ok(outcome) => outcome_text(heap, &outcome),
-        Err(Failure::Refused(refusal)) => refusal.text(heap),
-        Err(Failure::NoMemory) => Err(AllocError),
-    }
+    )
+}
+
+// The calls on the search, in their order. One function for these and those on the rig would be passed the match, which is all that
+// either has.
+fn search_calls(heap: Global, calls: &[AnyCall]) -> Result<Vec<SearchCall>, AllocError>
+    ensures { IfOk result (λ v. v.items ≡ search_calls calls.now) }
+{
+    let of_search = |call: &AnyCall| match call {
+        AnyCall::Search(one) => Some(*one),
+        AnyCall::Rig(_) => None,
+    };
+    calls.iter().filter_map(of_search).collect(heap)
+}
+
+// The calls on the rig, in their order.
+fn rig_calls(heap: Global, calls: &[AnyCall]) -> Result<Vec<RigCall>, AllocError>
+    ensures { IfOk result (λ v. v.items ≡ rig_calls calls.now) }
+{
+    let of_rig = |call: &AnyCall| match call {
+        AnyCall::Search(_) => None,
+        AnyCall::Rig(one) => Some(*one),
+    };
+    calls.iter().filter_map(of_rig).collect(heap)
 }
 
 fn outcome_text(heap: Global, outcome: &Outcome) -> Result<String, AllocError>
     ensures { IfOk result (λ s. string_bytes s ≡ text_of_outcome outcome.now.search.items outcome.now.rig.items outcome.now.rings.items) }
 {
-    let search = joined(heap, ", ", outcome.search.as_slice())?;
-    let rig = joined(heap, ", ", outcome.rig.as_slice())?;
+    let search = answers_text(heap, outcome.search.as_slice())?;
+    let rig = answers_text(heap, outcome.rig.as_slice())?;
     let rings = joined(heap, " ", outcome.rings.as_slice())?;
     format!(in heap; "search {search}; rig {rig}; rings {rings}")
 }
 
-// The calls on the search and those on the rig, each in their order.
-fn parted(heap: Global, calls: &[AnyCall]) -> Result<(Vec<SearchCall>, Vec<RigCall>), AllocError>
-    ensures { IfOk result (λ v. (v.0.items ≡ search_calls calls.now) × (v.1.items ≡ rig_calls calls.now)) }
+// The answers, with refusals in their places.
+fn answers_text<A: Display + Copy>(
+    heap: Global,
+    answers: &[Result<A, Refusal>],
+) -> Result<String, AllocError>
+    ensures { ShownBy A.output (λ show. IfOk result (λ s. string_bytes s ≡ joined (codes ", ") (map (answered_text show) answers.now))) }
 {
-    let mut search = Vec::new(heap);
-    let mut rig = Vec::new(heap);
-    for call in calls {
-        match call {
-            AnyCall::Search(one) => search.push(*one)?,
-            AnyCall::Rig(one) => rig.push(*one)?,
-        }
-    }
-    Ok((search, rig))
+    let told: Vec<Told<A>> = answers.iter().copied().map(Told).collect(heap)?;
+    joined(heap, ", ", told.as_slice())
 }

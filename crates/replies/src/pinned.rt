@@ -4,7 +4,7 @@ ghost use Rattle.rings.specs.Questions.{Answers};
 ghost use Rattle.search.specs.Views.{view, fitting};
 ghost use Rattle.replies.specs.Vectors.{vectors_refusal, pinned_search, vectors_text};
 
-use crate::told::{Told, joined};
+use crate::told::joined;
 use requests::Pin;
 use rings::Refusal;
 use search::Search;
@@ -22,7 +22,7 @@ pub(crate) fn vectors_text(
             let vectors = all_vectors(heap, search)?;
             joined(heap, " ", vectors.as_slice())
         }
-        Err(refusal) => refusal.text(heap),
+        Err(refusal) => refusal.to_string(heap),
     }
 }
 

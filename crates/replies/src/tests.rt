@@ -2,13 +2,11 @@ use crate::answer_line;
 use std::alloc::Global;
 use std::test::Fail;
 
-// The whole line that answers a line, as text.
+// The whole line that answers a line, as text. The tests of `commands` have this and the three below too, of their own
+// `answer_line`: no crate can call what another's tests call.
 fn answered(heap: Global, line: &[u8]) -> Result<String, Fail> {
     let bytes = answer_line(heap, 3, line)?;
-    match String::from_utf8(bytes) {
-        Ok(text) => Ok(text),
-        Err(_) => Err(Fail::new("the answer is no text")),
-    }
+    String::from_utf8(bytes).map_err(|_| Fail::new("the answer is no text"))
 }
 
 #[test]

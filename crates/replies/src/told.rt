@@ -1,89 +1,37 @@
-// What answers look like as text.
-ghost use Rattle.std.specs.Prelude.{◌≡◌, ℕ, List, map, IfOk, string_bytes, decimal};
-ghost use Rattle.replies.specs.Texts.{joined as joined_by, refusal_text, search_text, rig_text};
+// What came of calls, as text.
+ghost use Rattle.std.specs.Prelude.{◌≡◌, map, IfOk, string_bytes};
+ghost use Rattle.replies.specs.Texts.{joined as joined_by, shown_or_refused, ShownBy};
 
-use rig::Answer as RigAnswer;
-use rings::{Refusal, Ring};
-use service::Answer as SearchAnswer;
+use rings::Refusal;
 use std::alloc::{AllocError, Global};
+use std::fmt;
+use std::fmt::{Display, Write};
 
-// What can be told by a text.
-pub trait Told {
-    ghost told: { Self → List ℕ };
+// An answer, or the refusal in its place.
+#[derive(Clone, Copy)]
+pub struct Told<A>(pub Result<A, Refusal>);
 
-    fn text(&self, heap: Global) -> Result<String, AllocError>
-        ensures { IfOk result (λ s. string_bytes s ≡ told self.now) };
-}
+impl<A: Display> Display for Told<A> {
+    ghost output = { λ t. shown_or_refused A.output t.0 };
 
-// A vector is told by its number.
-impl Told for u32 {
-    ghost told = { decimal };
-
-    fn text(&self, heap: Global) -> Result<String, AllocError> {
-        self.to_string(heap)
-    }
-}
-
-// A ring is told by its vector.
-impl Told for Ring {
-    ghost told = { λ r. decimal r.vector.rules };
-
-    fn text(&self, heap: Global) -> Result<String, AllocError> {
-        let vector = self.vector().rules();
-        vector.to_string(heap)
-    }
-}
-
-impl Told for Refusal {
-    ghost told = { refusal_text };
-
-    fn text(&self, heap: Global) -> Result<String, AllocError> {
-        let number = self.number();
-        match self.place() {
-            Some(cell) => format!(in heap; "refused {number} at cell {cell}"),
-            None => format!(in heap; "refused {number}"),
-        }
-    }
-}
-
-impl Told for SearchAnswer {
-    ghost told = { search_text };
-
-    fn text(&self, heap: Global) -> Result<String, AllocError> {
-        match self {
-            SearchAnswer::Done => String::from_str(heap, "done"),
-            SearchAnswer::Count(count) => count.to_string(heap),
-            SearchAnswer::Vector(vector) => vector.to_string(heap),
-            SearchAnswer::Refused(refusal) => refusal.text(heap),
-        }
-    }
-}
-
-impl Told for RigAnswer {
-    ghost told = { rig_text };
-
-    fn text(&self, heap: Global) -> Result<String, AllocError> {
-        match self {
-            RigAnswer::Done => String::from_str(heap, "done"),
-            RigAnswer::Pattern(pattern) => pattern.to_string(heap),
-            RigAnswer::Clock(clock) => clock.to_string(heap),
-            RigAnswer::Refused(refusal) => refusal.text(heap),
+    fn fmt<W: fmt::Write>(&self, f: &mut fmt::Formatter<W>) -> fmt::Result {
+        match &self.0 {
+            Ok(answer) => write!(f, "{answer}"),
+            Err(refusal) => write!(f, "{refusal}"),
         }
     }
 }
 
 // The texts of the items with the separator between two, or "none".
-pub fn joined<T: Told>(heap: Global, separator: &str, items: &[T]) -> Result<String, AllocError>
-    ensures { IfOk result (λ s. string_bytes s ≡ joined_by separator.now (map T.told items.now)) }
+pub fn joined<T: Display>(heap: Global, separator: &str, items: &[T]) -> Result<String, AllocError>
+    ensures { ShownBy T.output (λ show. IfOk result (λ s. string_bytes s ≡ joined_by separator.now (map show items.now))) }
 {
     let [first, rest @ ..] = items else {
         return String::from_str(heap, "none");
     };
-    let mut text = first.text(heap)?;
+    let mut text = first.to_string(heap)?;
     for item in rest {
-        text.push_str(separator)?;
-        let more = item.text(heap)?;
-        text.push_str(more.as_str())?;
+        write!(text, "{separator}{item}")?;
     }
     Ok(text)
 }

@@ -1,24 +1,20 @@
 -- The names of the commands.
 --
---   name_of w      == the command that has this name
+--   name_of w      == the command that has this name, if one has
 --   usage_of name  == what a line with this name should look like
-use Rattle.std.specs.Prelude.{ℕ, cond, List, codes}
+use Rattle.std.specs.Prelude.{ℕ, cond, List, Some, codes, Option}
+use Rattle.std.specs.Option.{option_map}
 use Rattle.std.specs.Str.{bytes_eq}
+use Rattle.commands.specs.Commands.{name_of as plain_name_of, usage_of as plain_usage_of}
 use Rattle.requests.specs.declared.name.Name.{Name}
-use Rattle.requests.specs.declared.name.Name.TheVariants.{Multiply, Pattern, Register, Vectors, Run, Unknown}
+use Rattle.requests.specs.declared.name.Name.TheVariants.{Plain, Vectors, Run}
 
-abbrev pub name_of : List ℕ → Name
+abbrev pub name_of : List ℕ → Option Name
 name_of w =
-    cond (bytes_eq w (codes "multiply")) Multiply
-    (cond (bytes_eq w (codes "pattern")) Pattern
-    (cond (bytes_eq w (codes "register")) Register
-    (cond (bytes_eq w (codes "vectors")) Vectors
-    (cond (bytes_eq w (codes "run")) Run Unknown))))
+    cond (bytes_eq w (codes "vectors")) (Some Vectors)
+    (cond (bytes_eq w (codes "run")) (Some Run) (option_map Plain (plain_name_of w)))
 
 abbrev pub usage_of : Name → List ℕ
-usage_of Multiply = codes "multiply CELLS VECTOR"
-usage_of Pattern = codes "pattern CELLS VECTOR SEED CLOCK [doubler|tap]..."
-usage_of Register = codes "register POLYNOMIAL SEED CLOCK [doubler|tap]..."
+usage_of (Plain name) = plain_usage_of name
 usage_of Vectors = codes "vectors POLYNOMIAL [CELL=VALUE]..."
 usage_of Run = codes "run POLYNOMIAL [CALL]..."
-usage_of Unknown = codes "a command: multiply, pattern, register, vectors, run"

@@ -1,29 +1,12 @@
 // Commands: what a line asks for.
 use crate::call::{AnyCall, Pin};
+use commands::Command as PlainCommand;
 
-// What a line asks for. A number too large for its word stands here as the largest, which every question refuses alike.
+// What a line asks for.
 #[derive(Drop)]
 pub enum Command {
-    // The polynomial of a vector.
-    Multiply {
-        cells: u32,
-        vector: u32,
-    },
-    // What a ring shows so many clocks after its seed.
-    Pattern {
-        cells: u32,
-        vector: u32,
-        seed: u32,
-        clock: u64,
-        layers: Layers,
-    },
-    // What a register shows so many clocks after its seed.
-    Register {
-        polynomial: u32,
-        seed: u32,
-        clock: u64,
-        layers: Layers,
-    },
+    // A command with no list.
+    Plain(PlainCommand),
     // All vectors of a polynomial that obey the pins.
     Vectors {
         polynomial: u32,
@@ -34,11 +17,4 @@ pub enum Command {
         polynomial: u32,
         calls: Vec<AnyCall>,
     },
-}
-
-// How many layers of each kind stand over the generator; their order does not matter.
-#[derive(Clone, Copy)]
-pub struct Layers {
-    pub doublers: u32,
-    pub taps: u32,
 }

@@ -7,6 +7,6 @@ pub mod name;
 pub mod parsing;
 
 pub use call::{AnyCall, Pin};
-pub use command::{Command, Layers};
+pub use command::Command;
 pub use name::Name;
 pub use parsing::parse;

@@ -2,50 +2,37 @@
 ghost use Rattle.std.specs.Prelude.{◌≡◌};
 ghost use Rattle.requests.specs.Names.{name_of, usage_of};
 
-use words::same;
+use commands::Name as PlainName;
 
 // The commands by their names.
 #[derive(Clone, Copy)]
 pub enum Name {
-    Multiply,
-    Pattern,
-    Register,
+    // That of a command with no list.
+    Plain(PlainName),
     Vectors,
     Run,
-    // None of them.
-    Unknown,
 }
 
 impl Name {
-    pub fn of(word: &[u8]) -> Name
+    // The command that has this name, if one has. `TryFrom` would need an error type for what `None` says.
+    pub fn of(word: &[u8]) -> Option<Name>
         ensures { result ≡ name_of word.now }
     {
-        if same(word, b"multiply") {
-            Name::Multiply
-        } else if same(word, b"pattern") {
-            Name::Pattern
-        } else if same(word, b"register") {
-            Name::Register
-        } else if same(word, b"vectors") {
-            Name::Vectors
-        } else if same(word, b"run") {
-            Name::Run
-        } else {
-            Name::Unknown
+        match word {
+            b"vectors" => Some(Name::Vectors),
+            b"run" => Some(Name::Run),
+            _ => PlainName::of(word).map(Name::Plain),
         }
     }
 
-    // What a line with this name should look like.
+    // What a line with this name should look like: no printing of the name, so no `Display`.
     pub fn usage(&self) -> &'static str
         ensures { result.now ≡ usage_of self.now }
     {
         match self {
-            Name::Multiply => "multiply CELLS VECTOR",
-            Name::Pattern => "pattern CELLS VECTOR SEED CLOCK [doubler|tap]...",
-            Name::Register => "register POLYNOMIAL SEED CLOCK [doubler|tap]...",
+            Name::Plain(name) => name.usage(),
             Name::Vectors => "vectors POLYNOMIAL [CELL=VALUE]...",
             Name::Run => "run POLYNOMIAL [CALL]...",
-            Name::Unknown => "a command: multiply, pattern, register, vectors, run",
         }
     }
 }

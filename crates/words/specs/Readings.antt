@@ -9,6 +9,7 @@
 --   ended ws x        == x, where no word is left
 --   all_by read ws    == what the words ws read as, where each of them reads
 use Rattle.std.specs.Prelude.{ℕ, ◌-◌, ◌^◌, min, cond, ◌&&◌, List, [], ◌∷◌, Some, None, Option, nat_lt}
+use Rattle.std.specs.Option.{option_map, option_and_then}
 use Rattle.words.specs.declared.reading.Polynomial.{Polynomial}
 use Rattle.words.specs.Numbers.{is_number, value}
 
@@ -24,34 +25,20 @@ small_in w = cond (is_number w) (Some (min (amount w) (2 ^ 32 - 1))) None
 abbrev pub word_in : List ℕ → Option ℕ
 word_in w = cond (is_number w && nat_lt (amount w) (2 ^ 32)) (Some (amount w)) None
 
-abbrev pub as_polynomial : Option ℕ → Option Polynomial
-as_polynomial None = None
-as_polynomial (Some p) = Some (record { word = p })
-
 abbrev pub polynomial_in : List ℕ → Option Polynomial
-polynomial_in w = as_polynomial (word_in w)
-
-abbrev pub beside : {X : Type 0} → Option X → List (List ℕ) → Option (X × List (List ℕ))
-beside None ws = None
-beside (Some x) ws = Some (x, ws)
+polynomial_in w = option_map (λ p. record { word = p }) (word_in w)
 
 abbrev pub first_by : {X : Type 0} → (List ℕ → Option X) → List (List ℕ) → Option (X × List (List ℕ))
 first_by read [] = None
-first_by read (w ∷ ws) = beside (read w) ws
+first_by read (w ∷ ws) = option_map (λ x. (x, ws)) (read w)
 
 abbrev pub then : {X Y : Type 0} → Option (X × List (List ℕ)) → (X → List (List ℕ) → Option Y) → Option Y
-then None k = None
-then (Some e) k = k e.0 e.1
+then o k = option_and_then (λ e. k e.0 e.1) o
 
 abbrev pub ended : {X : Type 0} → List (List ℕ) → X → Option X
 ended [] x = Some x
 ended (w ∷ ws) x = None
 
-abbrev pub before : {X : Type 0} → Option X → Option (List X) → Option (List X)
-before None xs = None
-before (Some x) None = None
-before (Some x) (Some xs) = Some (x ∷ xs)
-
 abbrev pub all_by : {X : Type 0} → (List ℕ → Option X) → List (List ℕ) → Option (List X)
 all_by read [] = Some []
-all_by read (w ∷ ws) = before (read w) (all_by read ws)
+all_by read (w ∷ ws) = option_and_then (λ x. option_map (λ xs. x ∷ xs) (all_by read ws)) (read w)

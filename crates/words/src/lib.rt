@@ -9,4 +9,4 @@ pub mod words;
 
 pub use numbers::number;
 pub use reading::{Polynomial, Reading};
-pub use words::{Words, halves, same};
+pub use words::{Words, halves};

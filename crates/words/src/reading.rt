@@ -3,7 +3,8 @@ ghost use Rattle.std.specs.Prelude.{◌≡◌, ℕ, List, Option};
 
 pub mod readings;
 
-// What a word can write.
+// What a word can write. Words are bytes, which `FromStr` does not take, and `TryFrom` for
+// numbers can't be given here, since the trait and the types are both the library's.
 pub trait Reading: Sized {
     // The value that a word writes, if it writes one.
     ghost read: { List ℕ → Option Self };

@@ -4,15 +4,15 @@ use crate::{Words, number};
 fn words_of_a_command(rt: HostRuntime) {
     let mut words = Words::new(b"multiply  6 24");
     for word in [&b"multiply"[..], &b"6"[..], &b"24"[..]] {
-        assert_eq!(rt; words.next_word(), Some(word));
+        assert_eq!(rt; words.next(), Some(word));
     }
-    assert_eq!(rt; words.next_word(), None);
+    assert_eq!(rt; words.next(), None);
 }
 
 #[test]
 fn lines_with_no_word(rt: HostRuntime) {
-    assert_eq!(rt; Words::new(b"").next_word(), None);
-    assert_eq!(rt; Words::new(b"   ").next_word(), None);
+    assert_eq!(rt; Words::new(b"").next(), None);
+    assert_eq!(rt; Words::new(b"   ").next(), None);
 }
 
 #[test]

@@ -1,9 +1,10 @@
 // A line of bytes, word by word.
-ghost use Rattle.std.specs.Prelude.{◌≡◌, ◌<◌, ◌≤◌, [], ◌∷◌, ◌++◌, length, take, drop, IfOk, Some, None, vec_items, MatchOption, ◌≢◌, slice_index};
+ghost use Rattle.std.specs.Prelude.{◌≡◌, ◌==◌, [], ◌∷◌, IfOk, Some, None, vec_items, MatchOption};
+ghost use Rattle.std.specs.Iterator.{YieldsFirstRef, item_count};
+ghost use Rattle.std.specs.List.{position};
 ghost use Rattle.std.specs.Option.{option_map};
-ghost use Rattle.std.specs.Str.{bytes_eq};
 ghost use Rattle.words.specs.Readings.{first_by, all_by};
-ghost use Rattle.words.specs.Words.{space, filled, words, left, halves_of};
+ghost use Rattle.words.specs.Words.{words, left, halves_of};
 
 use crate::reading::Reading;
 use std::alloc::{AllocError, Global};
@@ -18,6 +19,20 @@ pub struct Words<'a> {
     rest: &'a [u8],
 }
 
+impl<'a> Iterator for Words<'a> {
+    type Item = &'a [u8];
+
+    ghost next_gives = { YieldsFirstRef left };
+
+    ghost remaining = { item_count left };
+
+    fn next(&mut self) -> Option<&'a [u8]> {
+        let (word, rest) = first_word(self.rest)?;
+        self.rest = rest;
+        Some(word)
+    }
+}
+
 impl<'a> Words<'a> {
     // All words of the line are yet to come.
     pub fn new(line: &'a [u8]) -> Words<'a>
@@ -26,29 +41,19 @@ impl<'a> Words<'a> {
         Words { rest: line }
     }
 
-    // The next word, or `None` once all have been given.
-    pub fn next_word(&mut self) -> Option<&'a [u8]>
-        ensures { MatchOption result ((left self.old ≡ []) × (left self.new ≡ [])) (λ w. left self.old ≡ w.now ∷ left self.new) }
-    {
-        let line = after_spaces(self.rest);
-        let (word, rest) = line.split_at(first_space(line));
-        self.rest = rest;
-        if word.is_empty() { None } else { Some(word) }
-    }
-
     // What the next word writes; none where it writes no such thing, or there is no word.
     pub fn value<T: Reading>(&mut self) -> Option<T>
         ensures { MatchOption result (first_by T.read (left self.old) ≡ None) (λ x. first_by T.read (left self.old) ≡ Some (x, left self.new)) }
     {
-        T::read(self.next_word()?)
+        T::read(self.next()?)
     }
 
     // What all words that are left write; none where one of them writes no such thing.
-    pub fn values<T: Reading + Drop>(mut self, heap: Global) -> Result<Option<Vec<T>>, AllocError>
+    pub fn values<T: Reading + Drop>(self, heap: Global) -> Result<Option<Vec<T>>, AllocError>
         ensures { IfOk result (λ o. option_map vec_items o ≡ all_by T.read (left self.entry)) }
     {
         let mut values = Vec::new(heap);
-        while let Some(word) = self.next_word() {
+        for word in self {
             let Some(value) = T::read(word) else {
                 return Ok(None);
             };
@@ -58,48 +63,27 @@ impl<'a> Words<'a> {
     }
 }
 
-// The line from its first byte other than a space.
-fn after_spaces(line: &[u8]) -> &[u8]
-    ensures same { words result.now ≡ words line.now }
-    ensures first { 0 < length result.now → slice_index result.now 0 ≢ space }
+// The first word of a line that has one, and what stands after it.
+fn first_word(line: &[u8]) -> Option<(&[u8], &[u8])>
+    ensures { MatchOption result (words line.now ≡ []) (λ w. words line.now ≡ w.0.now ∷ words w.1.now) }
 {
-    for (i, byte) in line.iter().enumerate() {
-        if *byte != SPACE {
-            return &line[i..];
-        }
-    }
-    &[]
-}
-
-// Where the first space of the line stands, or the line's length. What lies before it is a word, unless it is empty.
-fn first_space(line: &[u8]) -> usize
-    ensures within { result ≤ length line.now }
-    ensures found { result < length line.now → slice_index line.now result ≡ space }
-    ensures cuts { words line.now ≡ filled (take result line.now) ++ words (drop result line.now) }
-{
-    for (i, byte) in line.iter().enumerate() {
-        if *byte == SPACE {
-            return i;
-        }
-    }
-    line.len()
-}
-
-// Whether a word is this name.
-pub fn same(word: &[u8], name: &[u8]) -> bool
-    ensures { result ≡ bytes_eq word.now name.now }
-{
-    word == name
+    let start = line.iter().position(|byte| *byte != SPACE)?;
+    let line = &line[start..];
+    let end = place_of(SPACE, line).unwrap_or(line.len());
+    Some(line.split_at(end))
 }
 
 // What stands before and after the first equals sign of a word that has one.
 pub fn halves(word: &[u8]) -> Option<(&[u8], &[u8])>
     ensures { option_map (λ h. (h.0.now, h.1.now)) result ≡ halves_of word.now }
 {
-    for (i, byte) in word.iter().enumerate() {
-        if *byte == EQUALS {
-            return Some((&word[0..i], &word[i + 1..]));
-        }
-    }
-    None
+    let sign = place_of(EQUALS, word)?;
+    Some((&word[..sign], &word[sign + 1..]))
+}
+
+// Where a byte stands first.
+fn place_of(byte: u8, bytes: &[u8]) -> Option<usize>
+    ensures { result ≡ position (λ b. b == byte) bytes.now }
+{
+    bytes.iter().position(|b| *b == byte)
 }

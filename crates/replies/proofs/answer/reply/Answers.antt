@@ -8,5 +8,5 @@ use Rattle.replies.proofs.answer.reply.Goals as goal
 pub returns-in-Vectors : goal.returns-in-Vectors
 returns-in-Vectors c =
     made_as c.vectors_text.result string_bytes
-    (ap (vectors_text c.in-Vectors.polynomial) c.as_slice.ensures.value ∙ ap (λ q. reply_of (asked q)) (sym c.in-Vectors.is))
+    (ap (vectors_text c.in-Vectors.polynomial) c.deref.ensures.value ∙ ap (λ q. reply_of (asked q)) (sym c.in-Vectors.is))
     c.vectors_text.ensures

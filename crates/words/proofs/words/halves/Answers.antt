@@ -1,21 +1,14 @@
-use Rattle.std.proofs.Common.{ℕ, ◌+◌, List, take, Some, sym, ap, ◌∙◌, ap₂}
-use native.Mathlib.Nat.{sub-zero}
-use Rattle.std.proofs.lemmas.List.{take_rest, at_drop_all}
-use Rattle.words.specs.Words.{halves_of}
-use Rattle.words.proofs.Signs.{after, at_sign, no_sign}
+use Rattle.std.proofs.Common.{◌+◌, take, Some, sym, ap, ◌∙◌}
+use Rattle.std.proofs.lemmas.List.{take_rest}
+use Rattle.std.specs.Option.{option_map}
+use Rattle.words.proofs.Cuts.{no_sign, at_sign}
 use Rattle.words.proofs.words.halves.Goals as goal
 
-pub returns-then-byte-eq-EQUALS : goal.returns-then-byte-eq-EQUALS
-returns-then-byte-eq-EQUALS c =
-    let word = c.args.word.now in
-    let i = c.loop-i.i in
-    ap₂ (λ (l r : List ℕ). Some (l, r)) (ap (λ (k : ℕ). take k word) (sub-zero i)) (take_rest word (i + 1))
-    ∙ at_sign word i c.loop-i-test.true c.loop-i.invariant c.if-byte-eq-EQUALS.true
-
-pub loop-i-preserved : goal.loop-i-preserved
-loop-i-preserved c = no_sign c.args.word.now c.loop-i.i c.loop-i-test.true c.loop-i.invariant c.if-byte-eq-EQUALS.false
+pub returns-in_err-sign : goal.returns-in_err-sign
+returns-in_err-sign c = ap (option_map (λ h. (h.0.now, h.1.now))) c.from_residual.ensures ∙ no_sign c.args.word.now (sym c.place_of.ensures ∙ c.in_err-sign.was)
 
 pub returns : goal.returns
 returns c =
     let word = c.args.word.now in
-    sym (c.loop-i.invariant ∙ ap (after (take c.loop-i.i word)) (at_drop_all halves_of word c.loop-i.i c.loop-i-test.false))
+    let sign = c.in_ok-sign.sign in
+    ap (λ r. Some (take sign word, r)) (take_rest word (sign + 1)) ∙ at_sign word sign (sym c.place_of.ensures ∙ c.in_ok-sign.was)
