@@ -1,4 +1,5 @@
-// The calls that bench/ times. What is refused answers 0, which is no polynomial's answer to a measurement.
+// The calls that bench/ times, for C. What is refused answers 0, which is no polynomial's answer to a measurement: C has no
+// `Result`.
 #![tactic(auto)]
 
 ghost use Rattle.std.specs.Prelude.{◌≡◌, ℕ, ◌<◌, ◌≤◌, [], Some, None, fold, bit_xor};
@@ -16,56 +17,43 @@ use gf2::Modulus;
 use rings::{Refusal, Ring, polynomial_of};
 use search::Search;
 
-pub fn timed_product(p: u32, a: u32, b: u32) -> u32
+#[unsafe(no_mangle)]
+pub extern "C" fn timed_product(p: u32, a: u32, b: u32) -> u32
     ensures refused { p < 2 → result ≡ 0 }
     ensures value { 2 ≤ p → Leaves (product a b) p result }
 {
-    match Modulus::new(p) {
-        Some(m) => m.product(a, b),
-        None => 0,
-    }
+    Modulus::new(p).map_or(0, |m| m.product(a, b))
 }
 
-pub fn timed_power_of_x(p: u32, e: u64) -> u32
+#[unsafe(no_mangle)]
+pub extern "C" fn timed_power_of_x(p: u32, e: u64) -> u32
     ensures refused { p < 2 → result ≡ 0 }
     ensures value { 2 ≤ p → Leaves (power_of_x e) p result }
 {
-    match Modulus::new(p) {
-        Some(m) => m.power_of_x(e),
-        None => 0,
-    }
+    Modulus::new(p).map_or(0, |m| m.power_of_x(e))
 }
 
-pub fn timed_polynomial_of(cells: u32, vector: u32) -> u32
+#[unsafe(no_mangle)]
+pub extern "C" fn timed_polynomial_of(cells: u32, vector: u32) -> u32
     ensures { elim (vector_refusal cells vector) [ None ↦ result ≡ polynomial_of cells vector | Some q ↦ result ≡ 0 ] }
 {
-    match polynomial_of(cells, vector) {
-        Ok(p) => p,
-        Err(_) => 0,
-    }
+    polynomial_of(cells, vector).unwrap_or(0)
 }
 
 // The state of a ring so many single steps after a state.
-pub fn timed_steps(cells: u32, vector: u32, state: u32, count: u32) -> u32
+#[unsafe(no_mangle)]
+pub extern "C" fn timed_steps(cells: u32, vector: u32, state: u32, count: u32) -> u32
     ensures { elim (start_refusal cells vector state) [ None ↦ result ≡ iterate (ring_next cells vector) count state | Some q ↦ result ≡ 0 ] }
 {
-    match loaded(cells, vector, state) {
-        Ok(ring) => stepped(ring, count),
-        Err(_) => 0,
-    }
+    loaded(cells, vector, state).map_or(0, |ring| stepped(ring, count))
 }
 
 // The same by one jump.
-pub fn timed_jump(cells: u32, vector: u32, state: u32, length: u64) -> u32
+#[unsafe(no_mangle)]
+pub extern "C" fn timed_jump(cells: u32, vector: u32, state: u32, length: u64) -> u32
     ensures { elim (start_refusal cells vector state) [ None ↦ result ≡ iterate (ring_next cells vector) length state | Some q ↦ result ≡ 0 ] }
 {
-    match loaded(cells, vector, state) {
-        Ok(mut ring) => {
-            jump(&mut ring, length);
-            ring.state()
-        }
-        Err(_) => 0,
-    }
+    loaded(cells, vector, state).map_or(0, |ring| jumped(ring, length))
 }
 
 fn loaded(cells: u32, vector: u32, state: u32) -> Result<Ring, Refusal>
@@ -85,14 +73,23 @@ fn stepped(mut ring: Ring, count: u32) -> u32
     ring.state()
 }
 
+fn jumped(mut ring: Ring, length: u64) -> u32
+    ensures { result ≡ iterate (ring_next ring.vector.cells ring.vector.rules) length ring.state }
+{
+    jump(&mut ring, length);
+    ring.state()
+}
+
 // The sum of all vectors of a polynomial, bit by bit.
-pub fn timed_vectors(p: u32) -> u32
+#[unsafe(no_mangle)]
+pub extern "C" fn timed_vectors(p: u32) -> u32
     ensures { elim (polynomial_refusal p) [ None ↦ (n : ℕ) → Degree p n → result ≡ fold bit_xor 0 (full_list n p) | Some q ↦ result ≡ 0 ] }
 {
-    match Search::open(p) {
-        Ok(search) => sum_of(search),
-        Err(_) => 0,
-    }
+    // As `map_or`, like the others, what `open` promises of the search was out of the proof's reach.
+    let Ok(search) = Search::open(p) else {
+        return 0;
+    };
+    sum_of(search)
 }
 
 // The sum of all vectors of a search that has given none.

@@ -6,8 +6,8 @@ use Rattle.search.specs.Views.{view}
 use Rattle.search.proofs.Turns.{opened_all}
 use Rattle.timed.proofs.timed_vectors.Goals as goal
 
-pub returns-in-Ok : goal.returns-in-Ok
-returns-in-Ok c =
+pub returns : goal.returns
+returns c =
     let p = c.args.p in
     let w = view c.in-Ok.search in
     let opened = c.in-Ok.ensures.value in
