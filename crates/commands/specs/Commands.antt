@@ -7,6 +7,7 @@
 --   layers_of ws       == the layers that the words name, if each of them names one
 --   moment_of ws       == the seed, the clock and the layers that the words write
 --   read_as name args  == what the command of this name asks for with these words after it
+--   read_by name args  == the same, or else the name whose form they miss; None where there is no name
 --   understood ws      == what a line of these words asks for, or else the command whose form it misses, if it names one
 use Rattle.std.specs.Prelude.{ℕ, ◌+◌, ◌-◌, ◌^◌, min, cond, List, [], ◌∷◌, Some, None, Err, codes, Option, Result}
 use Rattle.std.specs.Option.{ok_or, option_map, option_and_then}

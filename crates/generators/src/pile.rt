@@ -7,6 +7,7 @@ use crate::{Generator, leap};
 use rings::Refusal;
 
 // So many doublers and taps over a generator, in whatever order: a doubler changes only the step, a tap only what is shown.
+// The calls that it hands on are a line each: a trait of layers with its laws would be longer.
 #[derive(Drop)]
 pub struct Pile<G> {
     below: G,

@@ -7,6 +7,7 @@ use crate::Generator;
 use rings::Refusal;
 
 // Shows each cell of the word that is shown below, plus the cell after it.
+// The calls that it hands on are a line each: a trait of layers with its laws would be longer.
 #[derive(Drop)]
 pub struct Tap<G> {
     below: G,

@@ -5,6 +5,7 @@
 --   listed_by read ws  == the polynomial that the first of the words writes, and what all words after it read as
 --   vectors_of args    == what `vectors` asks for with these words after its name; run_of likewise
 --   read_as name args  == what the command of this name asks for with these words after it
+--   read_by name args  == the same, or else the name whose form they miss; None where there is no name
 --   understood ws      == what a line of these words asks for, or else the command whose form it misses, if it names one
 use Rattle.std.specs.Prelude.{ℕ, List, [], ◌∷◌, Some, None, Ok, Err, vec_items, Option, Result}
 use Rattle.std.specs.Option.{ok_or, option_map}

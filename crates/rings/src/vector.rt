@@ -64,7 +64,8 @@ impl RuleVector {
     }
 }
 
-// The polynomial of a vector that is given as plain numbers.
+// The polynomial of a vector that is given as plain numbers, so that every number has an outcome; behind this the pair is a
+// `RuleVector`.
 pub fn polynomial_of(cells: u32, vector: u32) -> Result<u32, Refusal>
     ensures { Answers result (vector_refusal cells vector) (λ p. p ≡ polynomial_of cells vector) }
 {

@@ -1,5 +1,5 @@
 // The calls that bench/ times, for C. What is refused answers 0, which is no polynomial's answer to a measurement: C has no
-// `Result`.
+// `Result`. Each clause says the 0 again, as whoever reads what C calls reads it there.
 #![tactic(auto)]
 
 ghost use Rattle.std.specs.Prelude.{◌≡◌, ℕ, ◌<◌, ◌≤◌, [], Some, None, fold, bit_xor};

@@ -4,9 +4,6 @@ use Rattle.generators.specs.Piles.{tapped_word}
 use Rattle.generators.specs.Heights.{taps_none, taps_more}
 use Rattle.generators.proofs.pile.tapped_often.Goals as goal
 
-pub loop-done-init : goal.loop-done-init
-loop-done-init c = ap (λ (t : ℕ). tapped_word t c.args.word) (omega arith)
-
 pub loop-done-preserved : goal.loop-done-preserved
 loop-done-preserved c =
     let l = c.loop-done in

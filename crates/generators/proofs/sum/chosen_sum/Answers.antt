@@ -1,14 +1,8 @@
-use Rattle.std.proofs.Common.{ℕ, ◌+◌, ◌/◌, ◌^◌, drop, sym, ap, ◌∙◌, le-leb, div-one, shr-shr}
+use Rattle.std.proofs.Common.{ℕ, ◌+◌, ◌/◌, ◌^◌, drop, sym, ap, ◌∙◌, le-leb, shr-shr}
 use Rattle.generators.specs.Chosen.{chosen}
 use Rattle.generators.proofs.Chosen.{chosen_none, chosen_set, chosen_clear}
 use Rattle.generators.proofs.sum.chosen_sum.Goals as goal
 use Rattle.generators.proofs.sum.chosen_sum.Goals.{then-word-place-eq1, else-word-place-eq1}
-
-pub loop-place-init : goal.loop-place-init
-loop-place-init g c =
-    let t = g.T.Summand in
-    ap (λ s. t.plus s (chosen t.zero t.plus c.args.items.now (c.args.word / 1))) c.zero-sum.ensures
-    ∙ g.met.T.Summand.unit _ ∙ ap (chosen t.zero t.plus c.args.items.now) (div-one c.args.word)
 
 pub loop-place-preserved : goal.loop-place-preserved
 loop-place-preserved g c =

@@ -3,7 +3,7 @@ use lib.Bits.{bit_and}
 use Rattle.gf2.specs.Algebra.{product}
 use Rattle.gf2.proofs.Ring.{mul_zero_l}
 use Rattle.gf2.proofs.Division.{leaves_self, leaves_sum, leaves_digit_times}
-use Rattle.gf2.proofs.Words.{past_length, from_lowest, product_digit, digit_below}
+use Rattle.gf2.proofs.Words.{past_length, product_digit, digit_below}
 use Rattle.gf2.proofs.modulus.Modulus.multiple.Goals as goal
 
 pub loop-i-init : goal.loop-i-init
@@ -20,6 +20,3 @@ loop-i-preserved c d l =
     rw (product_digit c.args.a c.loop-i.i c.loop-i-test.true d, c.scaled.ensures low)
     (leaves_sum (before * 2) (digit * d) p c.times_x.result (digit * c.args.b)
     (c.times_x.ensures before (c.loop-i.invariant d l)) (leaves_digit_times digit d p c.args.b low l))
-
-pub returns : goal.returns
-returns c d l = rw (from_lowest c.args.a c.loop-i.i c.loop-i-test.false) at (c.loop-i.invariant d l)

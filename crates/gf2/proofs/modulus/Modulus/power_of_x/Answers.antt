@@ -1,7 +1,7 @@
 use Rattle.std.proofs.Common.{◌^◌, ◌<◌, arith}
 use lib.Pow.{pow-lt}
 use Rattle.gf2.proofs.Division.{leaves_self, leaves_square}
-use Rattle.gf2.proofs.Words.{past_length, from_lowest, power_zero, power_clear, power_set}
+use Rattle.gf2.proofs.Words.{past_length, power_zero, power_clear, power_set}
 use Rattle.gf2.proofs.modulus.Modulus.power_of_x.Goals as goal
 
 pub loop-i-init : goal.loop-i-init
@@ -19,6 +19,3 @@ pub loop-i-preserved-then-e-i-eq1 : goal.loop-i-preserved-then-e-i-eq1
 loop-i-preserved-then-e-i-eq1 c =
     rw (power_set c.args.e c.loop-i.i c.loop-i-test.true c.if-e-i-eq1.true)
     (c.times_x-r.ensures _ (leaves_square _ _ c.loop-i.r _ c.loop-i.invariant c.multiple-r.ensures))
-
-pub returns : goal.returns
-returns c = rw (from_lowest c.args.e c.loop-i.i c.loop-i-test.false) at c.loop-i.invariant
