@@ -2,6 +2,7 @@
 --
 --   name_of w          == the command that has this name, if one has
 --   usage_of name      == what a line with this name should look like
+--   expected_of name   == what a line was to look like: the form of the command that it names, or any command
 --   multiply_of args   == what `multiply` asks for with these words after its name; likewise for the other names
 --   more_layers l w    == the layers l and the one that w names, if it names one
 --   layers_of ws       == the layers that the words name, if each of them names one
@@ -30,6 +31,10 @@ abbrev pub usage_of : Name → List ℕ
 usage_of name.Multiply = codes "multiply CELLS VECTOR"
 usage_of name.Pattern = codes "pattern CELLS VECTOR SEED CLOCK [doubler|tap]..."
 usage_of name.Register = codes "register POLYNOMIAL SEED CLOCK [doubler|tap]..."
+
+abbrev pub expected_of : Option Name → List ℕ
+expected_of None = codes "a command: multiply, pattern, register"
+expected_of (Some name) = usage_of name
 
 abbrev pub multiply_of : List (List ℕ) → Option Command
 multiply_of ws = then (first_by small_in ws) (λ c ws. then (first_by small_in ws) (λ v ws. ended ws (Multiply c v)))

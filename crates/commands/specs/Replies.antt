@@ -3,7 +3,6 @@
 --   said q text        == the text, or the refusal if there is one
 --   reply_of c         == the answer to the command c
 --   missed_text n e    == the line that answers line n where it is not understood, and e was expected
---   expected_of name   == what a line was to look like: the form of the command that it names, or any command
 --   line_text n line r == the line that answers line n, which reads as r
 --   answer_line n line == the line that answers line n
 use Rattle.std.specs.Prelude.{ℕ, List, ◌++◌, Some, None, Ok, Err, codes, decimal, Option, Result}
@@ -15,7 +14,7 @@ use Rattle.words.specs.Words.{words}
 use Rattle.commands.specs.declared.command.Command.{Command}
 use Rattle.commands.specs.declared.command.Command.TheVariants.{Multiply, Pattern, Register}
 use Rattle.commands.specs.declared.name.Name.{Name}
-use Rattle.commands.specs.Commands.{understood, usage_of}
+use Rattle.commands.specs.Commands.{understood, expected_of}
 use Rattle.rig.specs.Rigs.{shown_at}
 use Rattle.commands.specs.Patterns.{ring_refusal, ring_meaning, register_refusal, register_meaning}
 
@@ -32,10 +31,6 @@ reply_of (Register polynomial m) =
 
 abbrev pub missed_text : ℕ → List ℕ → List ℕ
 missed_text n expected = codes "line " ++ (decimal n ++ (codes ": not understood, expected " ++ expected))
-
-abbrev pub expected_of : Option Name → List ℕ
-expected_of None = codes "a command: multiply, pattern, register"
-expected_of (Some name) = usage_of name
 
 abbrev pub line_text : ℕ → List ℕ → Result Command (Option Name) → List ℕ
 line_text n line (Ok c) = line ++ (codes ": " ++ reply_of c)

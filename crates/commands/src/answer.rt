@@ -1,8 +1,8 @@
 // The line that answers a command.
 ghost use Rattle.std.specs.Prelude.{◌≡◌, ◌++◌, IfOk, string_bytes, codes};
-ghost use Rattle.commands.specs.Replies.{answer_line, reply_of, missed_text, expected_of};
+ghost use Rattle.commands.specs.Replies.{answer_line, reply_of, missed_text};
 
-use crate::{Command, Name};
+use crate::{Command, expected};
 use rings::polynomial_of;
 use std::alloc::{AllocError, Global};
 
@@ -38,16 +38,6 @@ impl Command {
             Ok(number) => number.to_string(heap),
             Err(refusal) => refusal.to_string(heap),
         }
-    }
-}
-
-// What a line should look like: the form that it misses, or else any command.
-fn expected(name: Option<Name>) -> &'static str
-    ensures { result.now ≡ expected_of name }
-{
-    match name {
-        Some(name) => name.usage(),
-        None => "a command: multiply, pattern, register",
     }
 }
 

@@ -11,4 +11,4 @@ mod tests;
 
 pub use answer::{answer_line, echoed, missed};
 pub use command::{Command, Layers, Moment};
-pub use name::Name;
+pub use name::{Name, expected};

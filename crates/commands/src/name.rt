@@ -1,6 +1,6 @@
 // The names of the commands.
 ghost use Rattle.std.specs.Prelude.{◌≡◌};
-ghost use Rattle.commands.specs.Commands.{name_of, usage_of};
+ghost use Rattle.commands.specs.Commands.{name_of, usage_of, expected_of};
 
 // The commands by their names.
 #[derive(Clone, Copy)]
@@ -32,5 +32,15 @@ impl Name {
             Name::Pattern => "pattern CELLS VECTOR SEED CLOCK [doubler|tap]...",
             Name::Register => "register POLYNOMIAL SEED CLOCK [doubler|tap]...",
         }
+    }
+}
+
+// What a line should look like: the form of the command that it names, or else any command.
+pub fn expected(name: Option<Name>) -> &'static str
+    ensures { result.now ≡ expected_of name }
+{
+    match name {
+        Some(name) => name.usage(),
+        None => "a command: multiply, pattern, register",
     }
 }

@@ -1,5 +1,6 @@
 -- Lines of bytes, and the lines that answer them.
 --
+--   ended p            == the line p that the end of the bytes ends, if it is not empty
 --   lines_after p xs   == the lines of p followed by xs, where p has no line feed
 --   lines xs           == the lines of xs: what its line feeds part, and what stands after the last one, unless it is empty
 --   answers text n ls  == the answers to the lines ls, the first of which has the number n, each ended by a line feed

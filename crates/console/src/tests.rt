@@ -1,6 +1,6 @@
 ghost use Rattle.std.specs.Prelude.{◌++◌, decimal};
 
-use crate::{Answering, answer_line, answer_lines, answer_words};
+use crate::{Answering, answer_args, answer_line, answer_lines, answer_words};
 use std::alloc::{AllocError, Global};
 use std::test::Fail;
 
@@ -47,6 +47,11 @@ fn words_make_the_first_line(rt: HostRuntime) -> Result<(), Fail> {
     }
     let mut output = Vec::new(heap);
     if answer_words::<Numbered, _>(heap, &words, &mut output).is_err() {
+        return Err(Fail::new("no memory"));
+    }
+    assert_eq!(rt; output.as_slice(), &b"1multiply 6 24\n"[..]);
+    let mut output = Vec::new(heap);
+    if answer_args::<Numbered, _>(heap, words, &mut output).is_err() {
         return Err(Fail::new("no memory"));
     }
     assert_eq!(rt; output.as_slice(), &b"1multiply 6 24\n"[..]);

@@ -3,7 +3,7 @@
 
 ghost use Rattle.replies.specs.Replies.{answer_line};
 
-use console::{Answering, answer_lines, answer_words};
+use console::{Answering, answer_args, answer_lines};
 use replies::answer_line;
 use std::alloc::{AllocError, Global};
 use std::env;
@@ -23,13 +23,11 @@ impl Answering for Replies {
 // these lines. What comes of known bytes is promised by the calls.
 fn main(rt: HostRuntime) -> anyhow::Result<()> {
     let heap = rt.alloc();
-    let args: Vec<String> = env::args(&rt)?.collect(heap)?;
+    let words: Vec<String> = env::args(&rt)?.skip(1).collect(heap)?;
     let mut output = io::writer(&rt);
-    match args.as_slice() {
-        [] | [_] => {
-            let mut input = BufReader::new(heap, rt.reader())?;
-            answer_lines::<Replies, _, _>(heap, &mut input, &mut output)
-        }
-        [_, words @ ..] => answer_words::<Replies, _>(heap, words, &mut output),
+    if words.is_empty() {
+        let mut input = BufReader::new(heap, rt.stdin())?;
+        return answer_lines::<Replies, _, _>(heap, &mut input, &mut output);
     }
+    answer_args::<Replies, _>(heap, words, &mut output)
 }

@@ -1,8 +1,6 @@
 -- Texts that are put together.
-use Rattle.std.proofs.Common.{◌≡◌, ℕ, List, map, Some, Ok, Err, IfOk, Option, Result, refl, ap, ◌∙◌, subst}
-use Rattle.std.proofs.lemmas.Simd.{map-map}
+use Rattle.std.proofs.Common.{◌≡◌, ℕ, List, Some, Ok, Err, IfOk, Option, Result, refl, subst}
 use Rattle.rings.specs.declared.refusal.Refusal.{Refusal}
-use Rattle.replies.specs.declared.told.Told.{Told}
 use Rattle.replies.specs.Texts.{answered_text, shown_or_refused}
 
 -- a text under another name for it
@@ -14,8 +12,3 @@ pub shown_answer : {A : Type 0} (f : A → Option (List ℕ)) (show : A → List
     → (r : Result A Refusal) → shown_or_refused f r ≡ Some (answered_text show r)
 shown_answer f show h (Ok a) = h a
 shown_answer f show h (Err q) = refl
-
--- the texts of answers and refusals that are told are theirs
-pub told_texts : {A : Type 0} (show : A → List ℕ) (answers : List (Result A Refusal)) (ts : List (Told A)) → ts ≡ map (λ r. record { 0 = r }) answers
-    → map (λ t. answered_text show t.0) ts ≡ map (answered_text show) answers
-told_texts show answers ts is = ap (map (λ t. answered_text show t.0)) is ∙ map-map (λ t. answered_text show t.0) (λ r. record { 0 = r }) answers

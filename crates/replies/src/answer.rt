@@ -1,12 +1,12 @@
 // The line that answers a line.
 ghost use Rattle.std.specs.Prelude.{◌≡◌, IfOk, string_bytes};
 ghost use Rattle.requests.specs.Commands.{asked};
-ghost use Rattle.replies.specs.Replies.{answer_line, reply_of, expected_of};
+ghost use Rattle.replies.specs.Replies.{answer_line, reply_of};
 
 use crate::outcomes::run_text;
 use crate::pinned::vectors_text;
 use commands::{echoed, missed};
-use requests::{Command, Name, parse};
+use requests::{Command, expected, parse};
 use std::alloc::{AllocError, Global};
 
 // The answer to a line, without a line feed; number is the line's, for one that is not understood. `commands` has one of this
@@ -31,16 +31,5 @@ pub fn reply(heap: Global, command: &Command) -> Result<String, AllocError>
         Command::Plain(command) => command.reply(heap),
         Command::Vectors { polynomial, pins } => vectors_text(heap, *polynomial, pins),
         Command::Run { polynomial, calls } => run_text(heap, *polynomial, calls),
-    }
-}
-
-// What a line should look like: the form that it misses, or else any command. In `commands` it is of other names, and another
-// text, so that nothing but the match is the same.
-fn expected(name: Option<Name>) -> &'static str
-    ensures { result.now ≡ expected_of name }
-{
-    match name {
-        Some(name) => name.usage(),
-        None => "a command: multiply, pattern, register, vectors, run",
     }
 }

@@ -11,7 +11,7 @@ use rig::Call as RigCall;
 use rings::Refusal;
 use service::{Call as SearchCall, Failure, Outcome, perform};
 use std::alloc::{AllocError, Global};
-use std::fmt::Display;
+use std::fmt::{Display, Write};
 
 // The answers of a search on the polynomial and of a rig over its register, and the rings that came of them.
 #[tactic(auto, using(crate::proofs::Ran::ran))]
@@ -78,13 +78,21 @@ fn outcome_text(heap: Global, outcome: &Outcome) -> Result<String, AllocError>
     format!(in heap; "search {search}; rig {rig}; rings {rings}")
 }
 
-// The answers, with refusals in their places.
+// The answers, with refusals in their places. Each is told where it stands: `joined` would need a list of what is told beside the list
+// of answers.
 fn answers_text<A: Display + Copy>(
     heap: Global,
     answers: &[Result<A, Refusal>],
 ) -> Result<String, AllocError>
     ensures { ShownBy A.output (λ show. IfOk result (λ s. string_bytes s ≡ joined (codes ", ") (map (answered_text show) answers.now))) }
 {
-    let told: Vec<Told<A>> = answers.iter().copied().map(Told).collect(heap)?;
-    joined(heap, ", ", told.as_slice())
+    let [first, rest @ ..] = answers else {
+        return String::from_str(heap, "none");
+    };
+    let mut text = Told(*first).to_string(heap)?;
+    for answer in rest {
+        let told = Told(*answer);
+        write!(text, ", {told}")?;
+    }
+    Ok(text)
 }

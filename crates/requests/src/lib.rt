@@ -8,5 +8,5 @@ pub mod parsing;
 
 pub use call::{AnyCall, Pin};
 pub use command::Command;
-pub use name::Name;
+pub use name::{Name, expected};
 pub use parsing::parse;

@@ -1,6 +1,6 @@
 // The names of the commands.
 ghost use Rattle.std.specs.Prelude.{◌≡◌};
-ghost use Rattle.requests.specs.Names.{name_of, usage_of};
+ghost use Rattle.requests.specs.Names.{name_of, usage_of, expected_of};
 
 use commands::Name as PlainName;
 
@@ -34,5 +34,16 @@ impl Name {
             Name::Vectors => "vectors POLYNOMIAL [CELL=VALUE]...",
             Name::Run => "run POLYNOMIAL [CALL]...",
         }
+    }
+}
+
+// What a line should look like: the form of the command that it names, or else any command. In `commands` it is of other names, and
+// another text, so that nothing but the match is the same.
+pub fn expected(name: Option<Name>) -> &'static str
+    ensures { result.now ≡ expected_of name }
+{
+    match name {
+        Some(name) => name.usage(),
+        None => "a command: multiply, pattern, register, vectors, run",
     }
 }

@@ -24,7 +24,7 @@ use Rattle.rig.specs.declared.run.Call.{Call}
 use Rattle.rig.specs.declared.run.Call.TheVariants as call
 use Rattle.rig.specs.declared.run.Answer.{Answer}
 use Rattle.rig.specs.declared.run.Answer.TheVariants as answer
-use Rattle.rig.specs.Rigs.{View, seed_refusal, seeded, move_refusal, shown_at}
+use Rattle.rig.specs.Rigs.{View, Stands, seed_refusal, seeded, move_refusal, shown_at}
 
 abbrev pub Answered : Type 0
 Answered = Result Answer Refusal
@@ -92,3 +92,4 @@ RigLaw m = λ h c a. a ≡ right_answer m h c
 pub record Tied (v : View) (h : History Call Answered) : Type 0 where
   pub seed : v.seed ≡ last_seed h
   pub clock : v.clock ≡ elapsed h
+  pub stands : Stands v

@@ -84,3 +84,22 @@ fn random_runs_agree_with_plain_steps(rt: HostRuntime) -> Result<(), Fail> {
     }
     Ok(())
 }
+
+// Who only keeps a rig says nothing of what the generator is.
+#[derive(Drop)]
+struct Kept<G> {
+    rig: Rig<Tap<G>>,
+}
+
+fn handed_on<G>(kept: Kept<G>) -> Rig<Tap<G>> {
+    kept.rig
+}
+
+#[test]
+fn a_rig_is_kept_for_any_generator(rt: HostRuntime) -> Result<(), Fail> {
+    let rig = Rig::new(Tap::over(Ring::new(5, 30)?));
+    let mut rig = handed_on(Kept { rig });
+    rig.seed(11)?;
+    assert_eq!(rt; rig.show()?, 14);
+    Ok(())
+}

@@ -5,7 +5,7 @@ ghost use Rattle.rings.specs.Texts.{refusal_text};
 
 use std::fmt;
 
-#[derive(Clone, Copy, Debug, PartialEq, Eq)]
+#[derive(Clone, Copy, PartialEq, Eq)]
 pub enum Refusal {
     // The polynomial is 0 or 1.
     PolynomialBelowTwo,
@@ -119,5 +119,13 @@ impl fmt::Display for Refusal {
             Some(cell) => write!(f, "refused {number} at cell {cell}"),
             None => write!(f, "refused {number}"),
         }
+    }
+}
+
+// By its number, as everything outside of Rust knows a refusal: a derived one would write the variant's name.
+impl fmt::Debug for Refusal {
+    fn fmt<W: fmt::Write>(&self, f: &mut fmt::Formatter<W>) -> fmt::Result {
+        let number = self.number();
+        write!(f, "refused {number}")
     }
 }

@@ -30,3 +30,18 @@ fn a_ring_keeps_its_polynomial(rt: HostRuntime) -> Result<(), Fail> {
     assert_eq!(rt; ring.state(), 0);
     Ok(())
 }
+
+#[test]
+fn a_refusal_is_printed_by_its_number(rt: HostRuntime) -> Result<(), Fail> {
+    let heap = rt.alloc();
+    for (refusal, shown, debugged) in [
+        (Refusal::CellCount, "refused 15", "refused 15"),
+        (Refusal::NoShift(2), "refused 18 at cell 2", "refused 18"),
+    ] {
+        let text = format!(in heap; "{refusal}")?;
+        assert_eq!(rt; text.as_str(), shown);
+        let text = format!(in heap; "{refusal:?}")?;
+        assert_eq!(rt; text.as_str(), debugged);
+    }
+    Ok(())
+}

@@ -13,6 +13,11 @@ fn words_of_a_command(rt: HostRuntime) {
 fn lines_with_no_word(rt: HostRuntime) {
     assert_eq!(rt; Words::new(b"").next(), None);
     assert_eq!(rt; Words::new(b"   ").next(), None);
+    let mut words = Words::new(b"6  ");
+    assert_eq!(rt; words.next(), Some(&b"6"[..]));
+    for _ in 0..3 {
+        assert_eq!(rt; words.next(), None, "after the last word");
+    }
 }
 
 #[test]

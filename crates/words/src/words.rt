@@ -27,7 +27,11 @@ impl<'a> Iterator for Words<'a> {
     ghost remaining = { item_count left };
 
     fn next(&mut self) -> Option<&'a [u8]> {
-        let (word, rest) = first_word(self.rest)?;
+        let Some((word, rest)) = first_word(self.rest) else {
+            // The spaces at the end are gone through once, however often the caller asks again.
+            self.rest = &[];
+            return None;
+        };
         self.rest = rest;
         Some(word)
     }

@@ -4,5 +4,6 @@ use Rattle.rig.proofs.Moves.{stands_stepped}
 use Rattle.rig.proofs.rig.Rig.step.Goals as goal
 
 -- The step itself is not named: search finds what it promises, so that a body without it fails at the fact.
-pub invariant_of-self-clause-stands : goal.invariant_of-self-clause-stands
-invariant_of-self-clause-stands g c = stands_stepped (view c.args.self.now) _ _ _ (search rules) c.in_ok-clock.ensures.1 (search rules) c.args.self.now.stands
+pub returns-clause-stands : goal.returns-clause-stands
+returns-clause-stands g c = λ stands.
+    stands_stepped (view g.G.Generator.meaning g.G.Generator.state c.args.self.now) _ _ _ (search rules) c.in_ok-clock.ensures.1 (search rules) stands
