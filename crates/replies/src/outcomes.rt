@@ -23,7 +23,7 @@ pub(crate) fn run_text(
     ensures { IfOk result (λ s. string_bytes s ≡ text_of_run polynomial calls.now) }
 {
     match performed(heap, polynomial, calls) {
-        Ok(outcome) => outcome_text(heap, &outcome),
+        Ok(outcome) => outcome_text(heap, outcome),
         Err(Failure::Refused(refusal)) => refusal.to_string(heap),
         Err(Failure::NoMemory) => Err(AllocError),
     }
@@ -69,12 +69,14 @@ fn rig_calls(heap: Global, calls: &[AnyCall]) -> Result<Vec<RigCall>, AllocError
     calls.iter().filter_map(of_rig).collect(heap)
 }
 
-fn outcome_text(heap: Global, outcome: &Outcome) -> Result<String, AllocError>
-    ensures { IfOk result (λ s. string_bytes s ≡ text_of_outcome outcome.now.search.items outcome.now.rig.items outcome.now.rings.items) }
+fn outcome_text(heap: Global, outcome: Outcome) -> Result<String, AllocError>
+    ensures { IfOk result (λ s. string_bytes s ≡ text_of_outcome outcome.search.items outcome.rig.items outcome.rings.items) }
 {
     let search = answers_text(heap, outcome.search.as_slice())?;
     let rig = answers_text(heap, outcome.rig.as_slice())?;
     let rings = joined(heap, " ", outcome.rings.as_slice())?;
+    // What is told is not needed any more, and the texts are copied once.
+    drop(outcome);
     format!(in heap; "search {search}; rig {rig}; rings {rings}")
 }
 
